@@ -1,0 +1,9 @@
+pub mod Faults
+pub mod Lending
+pub mod Contents
+pub mod Tells
+pub mod formers
+pub mod MemSinkView
+pub mod MemViews
+pub mod World
+pub mod MemWorld

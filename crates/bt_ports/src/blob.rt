@@ -1,0 +1,60 @@
+// A run of bytes, which contracts see as a list of bytes.
+ghost use Rattle.std.specs.Prelude.{◌≡◌, ℕ, [], ◌++◌, OnOk, OnErr, IfOk};
+
+use crate::NoMemory;
+use std::alloc::Global;
+use std::marker::Model;
+
+#[derive(Drop)]
+pub struct Blob {
+    vec: Vec<u8>,
+}
+
+impl Model for Blob {
+    ghost use Rattle.std.specs.Prelude.{List, ℕ};
+
+    ghost Value = { List ℕ };
+
+    ghost view = { λ a. a.vec.items };
+}
+
+impl Blob {
+    pub fn new(alloc: Global) -> Blob
+        ensures { result ≡ [] }
+    {
+        Blob {
+            vec: Vec::new(alloc),
+        }
+    }
+
+    pub fn make(alloc: Global, b: &[u8]) -> Result<Blob, NoMemory>
+        ensures { IfOk result (λ t. t ≡ b.now) }
+    {
+        match Vec::from_slice(alloc, b) {
+            Ok(vec) => Ok(Blob { vec }),
+            Err(_) => Err(NoMemory),
+        }
+    }
+
+    pub fn from_vec(vec: Vec<u8>) -> Blob
+        ensures { result ≡ vec.items }
+    {
+        Blob { vec }
+    }
+
+    pub fn as_slice(&self) -> &[u8]
+        ensures { result.now ≡ self.now }
+    {
+        self.vec.as_slice()
+    }
+
+    pub fn push_all(&mut self, b: &[u8]) -> Result<(), NoMemory>
+        ensures ok { OnOk result (self.new ≡ self.old ++ b.now) }
+        ensures err { OnErr result (self.new ≡ self.old) }
+    {
+        match self.vec.extend_from_slice(b) {
+            Ok(()) => Ok(()),
+            Err(_) => Err(NoMemory),
+        }
+    }
+}
