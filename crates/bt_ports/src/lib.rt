@@ -1,15 +1,21 @@
-// Types and traits of the outside.
+//! The outside of the program: the types that pass through it, the traits that stand for it, and
+//! implementations of them in memory.
+//!
+//! A failure comes only where the count of faults of the object rose in that call, and what an
+//! object tells grows by one call's record.
 #![tactic(auto)]
 
 pub mod blob;
-pub mod mem_world;
 pub mod memory;
+pub mod origins;
 pub mod outside;
 pub mod parts;
 pub mod sequence;
 pub mod text;
 pub mod world;
 
-// Want of memory.
+/// Memory was wanted and there was none.
+///
+/// It is the one answer that no contract ties to a cause.
 #[derive(Clone, Copy)]
 pub struct NoMemory;

@@ -1,0 +1,77 @@
+//! A printer that keeps its bytes.
+ghost use Rattle.std.specs.Prelude.{◌≡◌, [], true};
+
+use crate::NoMemory;
+use crate::blob::Blob;
+use crate::memory::names;
+use crate::outside::Printer;
+use crate::parts::{Calls, PrintFailed};
+use std::alloc::Global;
+use std::marker::Model;
+
+/// A printer that keeps what is printed. A call that fails prints nothing.
+///
+/// Where it finds no memory it counts a fault, and tells nothing from then on.
+#[derive(Drop)]
+pub struct MemPrinter {
+    failing: Calls,
+    made: u64,
+    faults: u64,
+    lost: bool,
+    place: u64,
+    bytes: Blob,
+}
+
+impl Model for MemPrinter {
+    ghost use Rattle.std.specs.Prelude.{not};
+    ghost use Rattle.bt_ports.specs.Memory.{PrinterView};
+
+    ghost Value = { PrinterView };
+
+    ghost view = { λ s. record { faults = s.faults; place = s.place; tells = not s.lost; bytes = s.bytes; failing = s.failing.list; made = s.made } };
+}
+
+impl MemPrinter {
+    /// A printer whose calls of the numbers in `failing` fail.
+    pub fn make(alloc: Global, failing: Calls) -> MemPrinter
+        ensures { result ≡ record { faults = 0; place = 0; tells = true; bytes = []; failing = failing.list; made = 0 } }
+    {
+        MemPrinter {
+            failing,
+            made: 0,
+            faults: 0,
+            lost: false,
+            place: 0,
+            bytes: Blob::new(alloc),
+        }
+    }
+
+    /// What was printed.
+    pub fn bytes(&self) -> &Blob
+        ensures { result.now ≡ self.now.bytes }
+    {
+        &self.bytes
+    }
+}
+
+impl Printer for MemPrinter {
+    ghost faults = { λ s. s.faults };
+
+    ghost place = { λ s. s.place };
+
+    ghost tells = { λ s. s.tells };
+
+    ghost bytes = { λ s. s.bytes };
+
+    fn print(&mut self, piece: &[u8]) -> Result<(), PrintFailed> {
+        self.made = self.made.saturating_add(1);
+        if !names(&self.failing, self.made) {
+            match self.bytes.push_all(piece) {
+                Ok(()) => return Ok(()),
+                Err(NoMemory) => self.lost = true,
+            }
+        }
+        self.faults = self.faults.saturating_add(1);
+        Err(PrintFailed)
+    }
+}

@@ -1,0 +1,138 @@
+//! A sink that keeps its records.
+ghost use Rattle.std.specs.Prelude.{◌≡◌, [], ◌∷◌, ◌++◌, true, if◌then◌else◌, OnErr, OnOk};
+
+use crate::NoMemory;
+use crate::blob::Blob;
+use crate::memory::names;
+use crate::outside::Sink;
+use crate::parts::{Calls, Record, Records, SinkFailed};
+use crate::sequence::Sequence;
+use std::alloc::Global;
+use std::marker::Model;
+
+/// A sink that keeps the records that it accepts and those that it refuses.
+///
+/// Where it finds no memory it counts a fault, and tells nothing from then on.
+#[derive(Drop)]
+pub struct MemSink {
+    alloc: Global,
+    failing: Calls,
+    made: u64,
+    faults: u64,
+    lost: bool,
+    place: u64,
+    accepted: Records,
+    refused: Records,
+}
+
+impl Model for MemSink {
+    ghost use Rattle.std.specs.Prelude.{not};
+    ghost use Rattle.bt_ports.specs.Memory.{SinkView};
+
+    ghost Value = { SinkView };
+
+    ghost view = { λ s. record { faults = s.faults; place = s.place; tells = not s.lost; accepted = s.accepted.list; refused = s.refused.list; failing = s.failing.list; made = s.made } };
+}
+
+impl MemSink {
+    /// A sink whose puts of the numbers in `failing` fail.
+    pub fn make(alloc: Global, failing: Calls) -> MemSink
+        ensures { result ≡ record { faults = 0; place = 0; tells = true; accepted = []; refused = []; failing = failing.list; made = 0 } }
+    {
+        MemSink {
+            alloc,
+            failing,
+            made: 0,
+            faults: 0,
+            lost: false,
+            place: 0,
+            accepted: Sequence::new(alloc),
+            refused: Sequence::new(alloc),
+        }
+    }
+
+    /// The records that were accepted.
+    pub fn accepted(&self) -> &Records
+        ensures { result.now.list ≡ self.now.accepted }
+    {
+        &self.accepted
+    }
+
+    /// The records that were refused.
+    pub fn refused(&self) -> &Records
+        ensures { result.now.list ≡ self.now.refused }
+    {
+        &self.refused
+    }
+
+    // The record is kept at the end of a list.
+    fn keep(&mut self, accepts: bool, kept: Record) -> Result<(), NoMemory>
+        ensures err { OnErr result (self.new ≡ self.old) }
+        ensures ok { OnOk result (self.new ≡ (if accepts then record self.old { accepted = self.old.accepted ++ kept ∷ [] } else record self.old { refused = self.old.refused ++ kept ∷ [] })) }
+    {
+        let kept = if accepts {
+            self.accepted.push(kept)
+        } else {
+            self.refused.push(kept)
+        };
+        match kept {
+            Ok(()) => Ok(()),
+            Err(_) => Err(NoMemory),
+        }
+    }
+
+    // The sink at a place of the list of calls.
+    pub(crate) fn placed(self, place: u64) -> MemSink
+        ensures { result ≡ record self { place = place } }
+    {
+        let mut placed = self;
+        placed.place = place;
+        placed
+    }
+}
+
+impl Sink for MemSink {
+    ghost faults = { λ s. s.faults };
+
+    ghost place = { λ s. s.place };
+
+    ghost tells = { λ s. s.tells };
+
+    ghost accepted = { λ s. s.accepted };
+
+    ghost refused = { λ s. s.refused };
+
+    fn put(
+        &mut self,
+        txn: u64,
+        part: u32,
+        leaf: u32,
+        batch: u64,
+        bytes: &[u8],
+    ) -> Result<(), SinkFailed> {
+        self.made = self.made.saturating_add(1);
+        let accepts = !names(&self.failing, self.made);
+        match Blob::make(self.alloc, bytes) {
+            Ok(bytes) => {
+                let kept = Record {
+                    txn,
+                    part,
+                    leaf,
+                    batch,
+                    bytes,
+                };
+                match self.keep(accepts, kept) {
+                    Ok(()) => {
+                        if accepts {
+                            return Ok(());
+                        }
+                    }
+                    Err(NoMemory) => self.lost = true,
+                }
+            }
+            Err(NoMemory) => self.lost = true,
+        }
+        self.faults = self.faults.saturating_add(1);
+        Err(SinkFailed)
+    }
+}
