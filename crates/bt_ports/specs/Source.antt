@@ -1,5 +1,5 @@
 -- What a read of a source gives and takes.
-use Rattle.std.specs.Prelude.{◌≡◌, ℕ, ◌+◌, ◌≤◌, List, length, take, drop}
+use Rattle.std.specs.Prelude.{◌≡◌, ℕ, ◌+◌, ◌≤◌, Bool, false, true, List, length, take, drop}
 use Rattle.bt_ports.specs.declared.parts.Read.{Read}
 use Rattle.bt_ports.specs.declared.parts.Read.TheVariants.{Count, End, Failed}
 use Rattle.bt_ports.specs.Faults.{Rose}
@@ -22,3 +22,15 @@ abbrev pub ReadTakes : Read → List ℕ → ℕ → ℕ → List ℕ → Type 0
 ReadTakes (Count n) bytes old new buffer = (new ≡ old + n) × (old + n ≤ length bytes) × (take n buffer ≡ take n (drop old bytes))
 ReadTakes End bytes old new buffer = (new ≡ old) × (length bytes ≤ old)
 ReadTakes Failed bytes old new buffer = new ≡ old
+
+-- whether a read failed
+abbrev pub read_failed : Read → Bool
+read_failed (Count n) = false
+read_failed End = false
+read_failed Failed = true
+
+-- a fact for the count, where a read gave one
+abbrev pub IfCount : Read → (ℕ → Type 0) → Type 0
+IfCount (Count n) P = P n
+IfCount End P = Unit {0}
+IfCount Failed P = Unit {0}

@@ -1,5 +1,7 @@
 //! An answerer that keeps its calls.
-ghost use Rattle.std.specs.Prelude.{◌≡◌, [], true};
+ghost use Rattle.std.specs.Prelude.{◌≡◌, ◌≤◌, [], ◌∷◌, ◌++◌, true, if◌then◌else◌, IsTrue, OnErr, OnOk, is_err};
+ghost use Rattle.bt_ports.specs.Faults.{Rose, one_more};
+ghost use Rattle.bt_ports.specs.Memory.{is_named};
 
 use crate::NoMemory;
 use crate::blob::Blob;
@@ -81,7 +83,17 @@ impl Answerer for MemAnswerer {
         item: u64,
         verdict: &Verdict,
         why: &[u8],
-    ) -> Result<(), AnswerFailed> {
+    ) -> Result<(), AnswerFailed>
+        ensures counted { self.old.faults ≤ self.new.faults }
+        ensures failed { OnErr result (Rose self.old.faults self.new.faults) }
+        ensures told { IsTrue self.new.tells → IsTrue self.old.tells }
+        ensures adds { IsTrue self.new.tells → self.new.answers ≡ self.old.answers ++ record { number = number; item = item; verdict = verdict.now; why = why.now; failed = is_err result } ∷ [] }
+
+        // A call fails exactly where its number is named, and where memory is wanting: then the answerer tells no more.
+        ensures fails { IsTrue self.new.tells → is_err result ≡ is_named self.old.failing self.new.made }
+        ensures loses { OnOk result (self.new.tells ≡ self.old.tells) }
+        ensures stays { self.new ≡ record self.old { faults = (if is_err result then one_more self.old.faults else self.old.faults); tells = self.new.tells; answers = self.new.answers; made = one_more self.old.made } }
+    {
         self.made = self.made.saturating_add(1);
         let failed = names(&self.failing, self.made);
         match Blob::make(self.alloc, why) {

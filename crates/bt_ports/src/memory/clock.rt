@@ -1,5 +1,7 @@
 //! A clock whose readings are given.
 ghost use Rattle.std.specs.Prelude.{◌≡◌, true};
+ghost use Rattle.bt_ports.specs.Clock.{reading_at};
+ghost use Rattle.bt_ports.specs.Faults.{one_more};
 
 use crate::outside::Clock;
 use crate::parts::Moments;
@@ -52,7 +54,10 @@ impl Clock for MemClock {
 
     ghost made = { λ c. c.made };
 
-    fn now(&mut self) -> u64 {
+    fn now(&mut self) -> u64
+        ensures reads { result ≡ reading_at self.old.readings self.old.made }
+        ensures stays { self.new ≡ record self.old { made = one_more self.old.made } }
+    {
         let made = self.made;
         self.made = made.saturating_add(1);
         let readings = self.readings.as_slice();

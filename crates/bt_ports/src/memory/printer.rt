@@ -1,5 +1,8 @@
 //! A printer that keeps its bytes.
-ghost use Rattle.std.specs.Prelude.{◌≡◌, [], true};
+ghost use Rattle.std.specs.Prelude.{◌≡◌, ◌≤◌, [], true, if◌then◌else◌, IsTrue, OnErr, OnOk, is_err};
+ghost use Rattle.bt_ports.specs.Faults.{Rose, one_more};
+ghost use Rattle.bt_ports.specs.Memory.{is_named};
+ghost use Rattle.bt_ports.specs.Printer.{PrintAdds};
 
 use crate::NoMemory;
 use crate::blob::Blob;
@@ -63,7 +66,19 @@ impl Printer for MemPrinter {
 
     ghost bytes = { λ s. s.bytes };
 
-    fn print(&mut self, piece: &[u8]) -> Result<(), PrintFailed> {
+    fn print(&mut self, piece: &[u8]) -> Result<(), PrintFailed>
+        ensures counted { self.old.faults ≤ self.new.faults }
+        ensures failed { OnErr result (Rose self.old.faults self.new.faults) }
+        ensures told { IsTrue self.new.tells → IsTrue self.old.tells }
+        ensures adds { PrintAdds result piece.now self.old.bytes self.new.bytes }
+
+        // A call fails exactly where its number is named, and where memory is wanting: then the printer tells no more.
+        // It prints nothing where it fails.
+        ensures fails { IsTrue self.new.tells → is_err result ≡ is_named self.old.failing self.new.made }
+        ensures loses { OnOk result (self.new.tells ≡ self.old.tells) }
+        ensures nothing { OnErr result (self.new.bytes ≡ self.old.bytes) }
+        ensures stays { self.new ≡ record self.old { faults = (if is_err result then one_more self.old.faults else self.old.faults); tells = self.new.tells; bytes = self.new.bytes; made = one_more self.old.made } }
+    {
         self.made = self.made.saturating_add(1);
         if !names(&self.failing, self.made) {
             match self.bytes.push_all(piece) {

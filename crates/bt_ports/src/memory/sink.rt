@@ -1,5 +1,8 @@
 //! A sink that keeps its records.
-ghost use Rattle.std.specs.Prelude.{◌≡◌, [], ◌∷◌, ◌++◌, true, if◌then◌else◌, OnErr, OnOk};
+ghost use Rattle.std.specs.Prelude.{◌≡◌, ◌≤◌, [], ◌∷◌, ◌++◌, true, if◌then◌else◌, IsTrue, OnErr, OnOk, is_err};
+ghost use Rattle.bt_ports.specs.Faults.{Rose, one_more};
+ghost use Rattle.bt_ports.specs.Memory.{is_named};
+ghost use Rattle.bt_ports.specs.Sink.{PutAdds};
 
 use crate::NoMemory;
 use crate::blob::Blob;
@@ -109,7 +112,17 @@ impl Sink for MemSink {
         leaf: u32,
         batch: u64,
         bytes: &[u8],
-    ) -> Result<(), SinkFailed> {
+    ) -> Result<(), SinkFailed>
+        ensures counted { self.old.faults ≤ self.new.faults }
+        ensures failed { OnErr result (Rose self.old.faults self.new.faults) }
+        ensures told { IsTrue self.new.tells → IsTrue self.old.tells }
+        ensures adds { IsTrue self.new.tells → PutAdds result (record { txn = txn; part = part; leaf = leaf; batch = batch; bytes = bytes.now }) self.old.accepted self.old.refused self.new.accepted self.new.refused }
+
+        // A put fails exactly where its number is named, and where memory is wanting: then the sink tells no more.
+        ensures fails { IsTrue self.new.tells → is_err result ≡ is_named self.old.failing self.new.made }
+        ensures loses { OnOk result (self.new.tells ≡ self.old.tells) }
+        ensures stays { self.new ≡ record self.old { faults = (if is_err result then one_more self.old.faults else self.old.faults); tells = self.new.tells; accepted = self.new.accepted; refused = self.new.refused; made = one_more self.old.made } }
+    {
         self.made = self.made.saturating_add(1);
         let accepts = !names(&self.failing, self.made);
         match Blob::make(self.alloc, bytes) {

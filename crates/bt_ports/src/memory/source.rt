@@ -1,5 +1,8 @@
 //! A source over bytes.
-ghost use Rattle.std.specs.Prelude.{◌≡◌, ◌≤◌, true};
+ghost use Rattle.std.specs.Prelude.{◌≡◌, ◌-◌, ◌<◌, ◌≤◌, length, min, if◌then◌else◌, true};
+ghost use Rattle.bt_ports.specs.Faults.{one_more};
+ghost use Rattle.bt_ports.specs.Memory.{is_named};
+ghost use Rattle.bt_ports.specs.Source.{ReadFits, ReadFaults, ReadTakes, read_failed, IfCount};
 
 use crate::blob::Blob;
 use crate::memory::names;
@@ -71,7 +74,18 @@ impl Source for MemSource {
 
     ghost taken = { λ s. s.taken };
 
-    fn read(&mut self, buf: &mut [u8]) -> Read {
+    fn read(&mut self, buf: &mut [u8]) -> Read
+        requires { 0 < length buf.old }
+        ensures fits { ReadFits result (length buf.old) }
+        ensures counted { self.old.faults ≤ self.new.faults }
+        ensures failed { ReadFaults result self.old.faults self.new.faults }
+        ensures takes { ReadTakes result self.old.bytes self.old.taken self.new.taken buf.new }
+
+        // A read that doesn't fail gives as much as it can, and it fails exactly where its number is named.
+        ensures least { IfCount result (λ n. n ≡ min (min self.old.piece (length buf.old)) (length self.old.bytes - self.old.taken)) }
+        ensures fails { read_failed result ≡ is_named self.old.failing self.new.made }
+        ensures stays { self.new ≡ record self.old { faults = (if read_failed result then one_more self.old.faults else self.old.faults); taken = self.new.taken; made = one_more self.old.made } }
+    {
         self.made = self.made.saturating_add(1);
         if names(&self.failing, self.made) {
             self.faults = self.faults.saturating_add(1);

@@ -1,7 +1,10 @@
 //! The outside as a whole, in memory.
-ghost use Rattle.std.specs.Prelude.{◌≡◌, ℕ, ◌+◌, List, [], ◌∷◌, ◌++◌, length, true, IsTrue, IfOk, OnErr, Option, Some, None, option_map, option_copied};
-ghost use Rattle.bt_ports.specs.MemWorld.{find_file, puts_at, mem_tale};
-ghost use Rattle.bt_ports.specs.World.{once_more, FileGives, IfGot, StillTells};
+ghost use Rattle.std.specs.Prelude.{◌≡◌, ℕ, ◌+◌, ◌≤◌, ◌||◌, List, [], ◌∷◌, ◌++◌, length, true, if◌then◌else◌, IsTrue, IfOk, OnErr, OnOk, Option, Some, None, option_map, option_copied, is_err, is_none};
+ghost use Rattle.bt_ports.specs.Faults.{Rose, one_more};
+ghost use Rattle.bt_ports.specs.MemWorld.{find_file, puts_at, mem_tale, new_world, reading_failed, IfRead, opening_failed, IfOpened, bytes_of, mem_source, stdin_after, is_missing, taken_clock};
+ghost use Rattle.bt_ports.specs.Memory.{is_named};
+ghost use Rattle.bt_ports.specs.Printer.{PrintAdds};
+ghost use Rattle.bt_ports.specs.World.{once_more, FileFaults, FileGives, OpenFaults, IfGot, source_bytes, calls_with_reading, calls_with_opening};
 ghost use Rattle.bt_ports.specs.declared.parts.FileRead.TheVariants as FileRead;
 
 use crate::NoMemory;
@@ -60,12 +63,15 @@ pub struct MemWorld {
     files: Files,
     stdin: Option<MemSource>,
     clock: Option<MemClock>,
-    failing: Failing,
     printer: MemPrinter,
-    files_read: u64,
+    failing_opens: Calls,
+    failing_files: Calls,
+    failing_sinks: SinkCalls,
+    failing_answers: Calls,
     opened: u64,
-    file_faults: u64,
+    files_read: u64,
     open_faults: u64,
+    file_faults: u64,
     clocks: u64,
     keeps: u64,
     input_keeps: u64,
@@ -88,16 +94,16 @@ impl Model for MemWorld {
       files = w.files.list;
       stdin = w.stdin;
       clock = w.clock;
-      failing = w.failing;
-      files_read = w.files_read;
+      printer = w.printer;
+      failing_opens = w.failing_opens.list;
+      failing_files = w.failing_files.list;
+      failing_sinks = w.failing_sinks.list;
+      failing_answers = w.failing_answers.list;
       opened = w.opened;
-      prints = w.printer.made;
-      file_faults = w.file_faults;
+      files_read = w.files_read;
       open_faults = w.open_faults;
-      print_faults = w.printer.faults;
+      file_faults = w.file_faults;
       calls = w.calls.list;
-      printed = w.printer.bytes;
-      tells_printed = w.printer.tells;
       lines = w.lines.list;
       tells_lines = not w.lost_lines;
       clocks = w.clocks;
@@ -204,6 +210,7 @@ fn empty_source(alloc: Global) -> MemSource
 // A source over a copy of the file, which gives as many bytes as asked and fails at no read.
 fn source_over(alloc: Global, file: Option<&Blob>) -> Opened<MemSource>
     ensures bytes { IfGot result (λ s. option_map (λ b. b.now) file.entry ≡ Some s.bytes) }
+    ensures missing { IfOpened result (opening_failed result ≡ is_none (option_map (λ b. b.now) file.entry)) }
     ensures whole { IfGot result (λ s. s ≡ record { faults = 0; place = 0; bytes = s.bytes; taken = 0; piece = usize.MAX; failing = []; made = 0 }) }
 {
     let Some(file) = file else {
@@ -226,7 +233,7 @@ impl MemWorld {
     ) -> MemWorld
         requires source { stdin.made ≡ 0 }
         requires readings { clock.made ≡ 0 }
-        ensures told { mem_tale result ≡ record { files = find_file files.list; stdin = stdin.bytes; clock = clock.readings; calls = []; printed = []; lines = []; clocks = 0; keeps = 0; kept = None; input_keeps = 0; kept_input = None; load_keeps = 0; kept_load = None } }
+        ensures { result ≡ new_world files.list stdin clock (record { faults = 0; place = 0; tells = true; bytes = []; failing = failing.prints.list; made = 0 }) failing.opens.list failing.files.list failing.sinks.list failing.answers.list }
     {
         let Failing {
             opens,
@@ -240,18 +247,15 @@ impl MemWorld {
             files,
             stdin: Some(stdin),
             clock: Some(clock),
-            failing: Failing {
-                opens,
-                files: readings,
-                sinks,
-                answers,
-                prints: Sequence::new(alloc),
-            },
             printer: MemPrinter::make(alloc, prints),
-            files_read: 0,
+            failing_opens: opens,
+            failing_files: readings,
+            failing_sinks: sinks,
+            failing_answers: answers,
             opened: 0,
-            file_faults: 0,
+            files_read: 0,
             open_faults: 0,
+            file_faults: 0,
             clocks: 0,
             keeps: 0,
             input_keeps: 0,
@@ -267,7 +271,7 @@ impl MemWorld {
 
     /// What was printed.
     pub fn bytes(&self) -> &Blob
-        ensures { result.now ≡ self.now.printed }
+        ensures { result.now ≡ self.now.printer.bytes }
     {
         self.printer.bytes()
     }
@@ -319,7 +323,7 @@ impl World for MemWorld {
 
     ghost tells = { λ _. true };
 
-    ghost tells_printed = { λ w. w.tells_printed };
+    ghost tells_printed = { λ w. w.printer.tells };
 
     ghost tells_lines = { λ w. w.tells_lines };
 
@@ -329,11 +333,17 @@ impl World for MemWorld {
 
     ghost open_faults = { λ w. w.open_faults };
 
-    ghost print_faults = { λ w. w.print_faults };
+    ghost print_faults = { λ w. w.printer.faults };
 
-    fn read_file(&mut self, path: &str, limit: u64) -> FileRead {
+    fn read_file(&mut self, path: &str, limit: u64) -> FileRead
+        ensures counted { self.old.file_faults ≤ self.new.file_faults }
+        ensures failed { FileFaults result self.old.file_faults self.new.file_faults }
+        ensures gives { FileGives result (find_file self.old.files path.now) limit }
+        ensures fails { IfRead result (reading_failed result ≡ (is_named self.old.failing_files self.new.files_read || is_none (find_file self.old.files path.now))) }
+        ensures after { self.new ≡ record self.old { calls = calls_with_reading result path.now self.old.calls; files_read = one_more self.old.files_read; file_faults = (if reading_failed result then one_more self.old.file_faults else self.old.file_faults) } }
+    {
         self.files_read = self.files_read.saturating_add(1);
-        let read = if names(&self.failing.files, self.files_read) {
+        let read = if names(&self.failing_files, self.files_read) {
             FileRead::Failed
         } else {
             match find(self.files.as_slice(), path) {
@@ -364,10 +374,19 @@ impl World for MemWorld {
         }
     }
 
-    fn open_source(&mut self, name: &str) -> Opened<MemSource> {
+    fn open_source(&mut self, name: &str) -> Opened<MemSource>
+        ensures counted { self.old.open_faults ≤ self.new.open_faults }
+        ensures failed { OpenFaults result self.old.open_faults self.new.open_faults }
+        ensures told { IfGot result (λ s. source_bytes (find_file self.old.files) (bytes_of self.old.stdin) name.now ≡ Some s.bytes) }
+        ensures fresh { IfGot result (λ s. (s.faults ≡ 0) × (s.taken ≡ 0)) }
+        ensures placed { IfGot result (λ s. s.place ≡ length self.new.calls) }
+        ensures gives { IfGot result (λ s. s ≡ mem_source self.old.files self.old.stdin name.now (length self.new.calls)) }
+        ensures fails { IfOpened result (opening_failed result ≡ (is_named self.old.failing_opens self.new.opened || is_missing self.old.files name.now)) }
+        ensures after { self.new ≡ record self.old { calls = calls_with_opening result What.Source (Some name.now) None self.old.calls; stdin = stdin_after result name.now self.old.stdin; opened = one_more self.old.opened; open_faults = (if opening_failed result then one_more self.old.open_faults else self.old.open_faults) } }
+    {
         self.opened = self.opened.saturating_add(1);
         let from_stdin = name == "stdin";
-        let found = if names(&self.failing.opens, self.opened) {
+        let found = if names(&self.failing_opens, self.opened) {
             Opened::Failed
         } else if from_stdin {
             Opened::Got(empty_source(self.alloc))
@@ -415,10 +434,18 @@ impl World for MemWorld {
         }
     }
 
-    fn open_sink(&mut self, name: &str, end: &[u8]) -> Opened<MemSink> {
+    fn open_sink(&mut self, name: &str, end: &[u8]) -> Opened<MemSink>
+        ensures counted { self.old.open_faults ≤ self.new.open_faults }
+        ensures failed { OpenFaults result self.old.open_faults self.new.open_faults }
+        ensures fresh { IfGot result (λ s. (s.faults ≡ 0) × (s.accepted ≡ []) × (s.refused ≡ [])) }
+        ensures placed { IfGot result (λ s. s.place ≡ length self.new.calls) }
+        ensures gives { IfGot result (λ s. s ≡ record { faults = 0; place = length self.new.calls; tells = true; accepted = []; refused = []; failing = puts_at self.old.failing_sinks name.now; made = 0 }) }
+        ensures fails { IfOpened result (opening_failed result ≡ is_named self.old.failing_opens self.new.opened) }
+        ensures after { self.new ≡ record self.old { calls = calls_with_opening result What.Sink (Some name.now) (Some end.now) self.old.calls; opened = one_more self.old.opened; open_faults = (if opening_failed result then one_more self.old.open_faults else self.old.open_faults) } }
+    {
         self.opened = self.opened.saturating_add(1);
-        let failed = names(&self.failing.opens, self.opened);
-        let failing = match failing_puts(self.alloc, self.failing.sinks.as_slice(), name) {
+        let failed = names(&self.failing_opens, self.opened);
+        let failing = match failing_puts(self.alloc, self.failing_sinks.as_slice(), name) {
             Ok(failing) => failing,
             Err(NoMemory) => return Opened::NoMemory,
         };
@@ -440,10 +467,18 @@ impl World for MemWorld {
         Opened::Got(MemSink::make(self.alloc, failing).placed(place))
     }
 
-    fn open_answers(&mut self, path: Option<&str>) -> Opened<MemAnswerer> {
+    fn open_answers(&mut self, path: Option<&str>) -> Opened<MemAnswerer>
+        ensures counted { self.old.open_faults ≤ self.new.open_faults }
+        ensures failed { OpenFaults result self.old.open_faults self.new.open_faults }
+        ensures fresh { IfGot result (λ s. (s.faults ≡ 0) × (s.answers ≡ [])) }
+        ensures placed { IfGot result (λ s. s.place ≡ length self.new.calls) }
+        ensures gives { IfGot result (λ s. s ≡ record { faults = 0; place = length self.new.calls; tells = true; answers = []; failing = self.old.failing_answers; made = 0 }) }
+        ensures fails { IfOpened result (opening_failed result ≡ is_named self.old.failing_opens self.new.opened) }
+        ensures after { self.new ≡ record self.old { calls = calls_with_opening result What.Answers (option_map (λ p. p.now) path.entry) None self.old.calls; opened = one_more self.old.opened; open_faults = (if opening_failed result then one_more self.old.open_faults else self.old.open_faults) } }
+    {
         self.opened = self.opened.saturating_add(1);
-        let failed = names(&self.failing.opens, self.opened);
-        let failing = match copy(self.alloc, self.failing.answers.as_slice()) {
+        let failed = names(&self.failing_opens, self.opened);
+        let failing = match copy(self.alloc, self.failing_answers.as_slice()) {
             Ok(failing) => failing,
             Err(NoMemory) => return Opened::NoMemory,
         };
@@ -465,7 +500,10 @@ impl World for MemWorld {
         Opened::Got(MemAnswerer::make(self.alloc, failing).placed(place))
     }
 
-    fn take_clock(&mut self) -> MemClock {
+    fn take_clock(&mut self) -> MemClock
+        ensures gives { result ≡ taken_clock self.old.clock }
+        ensures after { self.new ≡ record self.old { clock = None; clocks = once_more self.old.clocks } }
+    {
         self.clocks = self.clocks.min(1) + 1;
         match self.clock.take() {
             Some(clock) => clock.anew(),
@@ -474,37 +512,44 @@ impl World for MemWorld {
     }
 
     fn keep(&mut self, ends: Ends<MemSource, MemSink, MemAnswerer, MemClock>)
-        ensures steady { (self.new.file_faults ≡ self.old.file_faults) × (self.new.open_faults ≡ self.old.open_faults) × (self.new.print_faults ≡ self.old.print_faults) }
-        ensures told { StillTells true true × StillTells self.old.tells_printed self.new.tells_printed × StillTells self.old.tells_lines self.new.tells_lines }
-        ensures keeps { mem_tale self.new ≡ record (mem_tale self.old) { keeps = once_more self.old.keeps; kept = Some ends } }
+        ensures after { self.new ≡ record self.old { keeps = once_more self.old.keeps; kept = Some ends } }
     {
         self.keeps = self.keeps.min(1) + 1;
         self.kept = Some(ends);
     }
 
     fn keep_input(&mut self, sources: Sources<MemSource>)
-        ensures steady { (self.new.file_faults ≡ self.old.file_faults) × (self.new.open_faults ≡ self.old.open_faults) × (self.new.print_faults ≡ self.old.print_faults) }
-        ensures told { StillTells true true × StillTells self.old.tells_printed self.new.tells_printed × StillTells self.old.tells_lines self.new.tells_lines }
-        ensures keeps { mem_tale self.new ≡ record (mem_tale self.old) { input_keeps = once_more self.old.input_keeps; kept_input = Some sources } }
+        ensures after { self.new ≡ record self.old { input_keeps = once_more self.old.input_keeps; kept_input = Some sources } }
     {
         self.input_keeps = self.input_keeps.min(1) + 1;
         self.kept_input = Some(sources);
     }
 
     fn keep_load(&mut self, ends: Ends<MemSource, MemSink, MemAnswerer, MemClock>)
-        ensures steady { (self.new.file_faults ≡ self.old.file_faults) × (self.new.open_faults ≡ self.old.open_faults) × (self.new.print_faults ≡ self.old.print_faults) }
-        ensures told { StillTells true true × StillTells self.old.tells_printed self.new.tells_printed × StillTells self.old.tells_lines self.new.tells_lines }
-        ensures keeps { mem_tale self.new ≡ record (mem_tale self.old) { load_keeps = once_more self.old.load_keeps; kept_load = Some ends } }
+        ensures after { self.new ≡ record self.old { load_keeps = once_more self.old.load_keeps; kept_load = Some ends } }
     {
         self.load_keeps = self.load_keeps.min(1) + 1;
         self.kept_load = Some(ends);
     }
 
-    fn print(&mut self, piece: &[u8]) -> Result<(), PrintFailed> {
+    fn print(&mut self, piece: &[u8]) -> Result<(), PrintFailed>
+        ensures counted { self.old.printer.faults ≤ self.new.printer.faults }
+        ensures failed { OnErr result (Rose self.old.printer.faults self.new.printer.faults) }
+        ensures told { IsTrue self.new.printer.tells → IsTrue self.old.printer.tells }
+        ensures adds { PrintAdds result piece.now self.old.printer.bytes self.new.printer.bytes }
+        ensures fails { IsTrue self.new.printer.tells → is_err result ≡ is_named self.old.printer.failing self.new.printer.made }
+        ensures loses { OnOk result (self.new.printer.tells ≡ self.old.printer.tells) }
+        ensures nothing { OnErr result (self.new.printer.bytes ≡ self.old.printer.bytes) }
+        ensures after { self.new ≡ record self.old { printer = record self.old.printer { faults = (if is_err result then one_more self.old.printer.faults else self.old.printer.faults); tells = self.new.printer.tells; bytes = self.new.printer.bytes; made = one_more self.old.printer.made } } }
+    {
         self.printer.print(piece)
     }
 
-    fn err(&mut self, line: &[u8]) {
+    fn err(&mut self, line: &[u8])
+        ensures told { IsTrue self.new.tells_lines → IsTrue self.old.tells_lines }
+        ensures adds { IsTrue self.new.tells_lines → self.new.lines ≡ self.old.lines ++ line.now ∷ [] }
+        ensures after { self.new ≡ record self.old { lines = self.new.lines; tells_lines = self.new.tells_lines } }
+    {
         match Blob::make(self.alloc, line) {
             Ok(line) => {
                 if self.lines.push(line).is_err() {
