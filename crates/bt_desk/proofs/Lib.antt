@@ -1,0 +1,5 @@
+pub mod Admitting
+pub mod Beginning
+pub mod Delivering
+pub mod Histories
+pub mod Settling

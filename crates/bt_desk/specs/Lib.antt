@@ -1,0 +1,5 @@
+pub mod Calls
+pub mod DeskView
+pub mod History
+pub mod Settles
+pub mod Stands

@@ -1,0 +1,205 @@
+//! The desk's calls.
+ghost use Rattle.std.specs.Prelude.{◌≡◌, ◌⊎◌, ℕ, ◌^◌, ◌<◌, List, [], length, IfOk, IfErr, IsTrue, IsSome, Some, None, true};
+ghost use Rattle.bt_ports.specs.Intake.{stop_of};
+ghost use Rattle.bt_desk.specs.Stands.{ending_of};
+ghost use Rattle.bt_desk.specs.Calls.{answer_to};
+
+use crate::parts::{Admit, Parts};
+use crate::report::{Ending, Out, Report};
+use crate::settle::settle;
+use bt_ports::NoMemory;
+use bt_ports::outside::{Answerer, Clock, Intake, Sink};
+use bt_ports::parts::{Items, Next, Sinks, Txn};
+use std::alloc::Global;
+use std::marker::Model;
+
+/// The intake, the sinks, the answerer and the clock of a run as one state.
+#[derive(Drop)]
+pub struct Desk<I: Intake, K: Sink, A: Answerer, C: Clock> {
+    intake: I,
+    sinks: Sinks<K>,
+    answerer: A,
+    clock: C,
+    out: Vec<Out>,
+    report: Report,
+    finished: bool,
+}
+
+impl<I: Intake, K: Sink, A: Answerer, C: Clock> Model for Desk<I, K, A, C> {
+    ghost use Rattle.std.specs.Prelude.{◌≤◌};
+    ghost use Rattle.std.specs.Vec.{vec_capacity};
+    ghost use Rattle.bt_desk.specs.DeskView.{DeskView};
+    ghost use Rattle.bt_desk.specs.Stands.{Stands};
+
+    ghost Value = { DeskView I K A C };
+
+    ghost view = { λ d. record { intake = d.intake; sinks = d.sinks; answerer = d.answerer; clock = d.clock; out = d.out.items; report = d.report; finished = d.finished } };
+
+    ghost invariant = { λ d. record { room : 1 ≤ vec_capacity d.out; stands : Stands ⟦<I as Intake>⟧ ⟦<K as Sink>⟧ ⟦<A as Answerer>⟧ (record { intake = d.intake; sinks = d.sinks; answerer = d.answerer; clock = d.clock; out = d.out.items; report = d.report; finished = d.finished }) } };
+}
+
+/// The batch, or the ending that another answer of an intake is.
+fn batch_of(next: Next) -> Result<Items, Ending>
+    ensures batch { IfOk result (λ items. next ≡ Next.Batch items) }
+    ensures ending { IfErr result (λ ending. ending_of (stop_of next) ≡ Some ending) }
+{
+    match next {
+        Next::Batch(items) => Ok(items),
+        Next::End => Err(Ending::Ended),
+        Next::Failed => Err(Ending::ReadFault),
+        Next::LongLine(line) => Err(Ending::LongLine(line)),
+        Next::Bound => Err(Ending::Bound),
+        Next::NoMemory => Err(Ending::NoMemory),
+    }
+}
+
+/// An admission's answer for an ending.
+fn answer_of(ending: Ending) -> Admit
+    ensures { result ≡ answer_to ending }
+{
+    match ending {
+        Ending::Ended => Admit::Ended,
+        Ending::ReadFault => Admit::ReadFault,
+        Ending::LongLine(_) => Admit::Bound,
+        Ending::Bound => Admit::Bound,
+        Ending::NoMemory => Admit::NoMemory,
+    }
+}
+
+impl<I: Intake, K: Sink, A: Answerer, C: Clock> Desk<I, K, A, C> {
+    ghost use Rattle.bt_desk.specs.Stands.{Stands};
+    ghost use Rattle.bt_desk.specs.History.{Settled};
+    ghost use Rattle.bt_desk.specs.Calls.{IsUnwritten, IsUnanswered, Begins, SameRun, IsOut, Admits, OnlyAdmits, Delivers};
+
+    /// A desk over these parts, on which nothing was taken.
+    ///
+    /// # Errors
+    /// Where there is no memory, and the parts are handed back.
+    pub fn make(
+        alloc: Global,
+        parts: Parts<I, K, A, C>,
+    ) -> Result<Self, (NoMemory, Parts<I, K, A, C>)>
+        requires one_sink { length parts.sinks.list ≡ 1 }
+        requires goes { I.stopped parts.intake ≡ None }
+        requires few { I.left parts.intake < 2 ^ 56 }
+        requires unwritten { IsUnwritten ⟦<K as Sink>⟧ parts.sinks.list }
+        requires unanswered { IsUnanswered ⟦<A as Answerer>⟧ parts.answerer }
+        ensures begins { IfOk result (λ desk. Begins desk parts) }
+        ensures stands { IfOk result (λ desk. Stands ⟦<I as Intake>⟧ ⟦<K as Sink>⟧ ⟦<A as Answerer>⟧ desk) }
+        ensures parts { IfErr result (λ e. e.1 ≡ parts) }
+    {
+        match Vec::with_capacity(alloc, 1) {
+            Ok(out) => {
+                let Parts {
+                    intake,
+                    sinks,
+                    answerer,
+                    clock,
+                } = parts;
+                Ok(Desk {
+                    intake,
+                    sinks,
+                    answerer,
+                    clock,
+                    out,
+                    report: Report::new(),
+                    finished: false,
+                })
+            }
+            Err(_) => Err((NoMemory, parts)),
+        }
+    }
+
+    /// Takes the next transaction, or finds how the run ends.
+    pub fn admit(&mut self) -> Admit
+        requires idle { self.old.out ≡ [] }
+        requires goes { self.old.report.ending ≡ None }
+        ensures admits { Admits ⟦<I as Intake>⟧ ⟦<C as Clock>⟧ result self.old self.new }
+        ensures only { OnlyAdmits ⟦<I as Intake>⟧ self.old self.new }
+        ensures run { SameRun ⟦<I as Intake>⟧ self.old self.new }
+        ensures stands { Stands ⟦<I as Intake>⟧ ⟦<K as Sink>⟧ ⟦<A as Answerer>⟧ self.new }
+    {
+        match batch_of(self.intake.next()) {
+            Ok(items) => {
+                let moment = self.clock.now();
+                self.report.taken += 1;
+                let number = self.report.taken;
+                self.out.push_reserved(Out {
+                    number,
+                    items: items.len() as u64,
+                });
+                Admit::Job(Txn {
+                    number,
+                    moment,
+                    items,
+                })
+            }
+            Err(ending) => {
+                self.report.ending = Some(ending);
+                answer_of(ending)
+            }
+        }
+    }
+
+    /// Puts each item of the transaction that the last admission gave to the sink, answers it, and counts the answer.
+    /// Takes no memory. An answer that fails isn't repeated.
+    pub fn deliver(&mut self, txn: Txn)
+        requires out { IsOut ⟦<I as Intake>⟧ self.old txn }
+        ensures delivers { ((items : List Settled) × Delivers ⟦<K as Sink>⟧ ⟦<A as Answerer>⟧ txn self.old self.new items) }
+        ensures run { SameRun ⟦<I as Intake>⟧ self.old self.new }
+        ensures stands { Stands ⟦<I as Intake>⟧ ⟦<K as Sink>⟧ ⟦<A as Answerer>⟧ self.new }
+    {
+        settle(
+            &mut self.sinks,
+            &mut self.answerer,
+            &mut self.report,
+            txn.number,
+            txn.items.as_slice(),
+        );
+        self.out.clear();
+    }
+
+    /// Closes the run. Takes no memory.
+    pub fn finish(&mut self)
+        requires ended { IsSome self.old.report.ending }
+        requires idle { self.old.out ≡ [] }
+        ensures finished { self.new ≡ record self.old { finished = true } }
+        ensures stands { Stands ⟦<I as Intake>⟧ ⟦<K as Sink>⟧ ⟦<A as Answerer>⟧ self.new }
+    {
+        self.finished = true;
+    }
+
+    /// What the run reports so far.
+    pub fn report(&self) -> Report
+        ensures report { result ≡ self.now.report }
+        ensures stands { Stands ⟦<I as Intake>⟧ ⟦<K as Sink>⟧ ⟦<A as Answerer>⟧ self.now }
+    {
+        self.report
+    }
+
+    /// Hands back the objects of the outside. Takes no memory.
+    pub fn into_parts(self) -> Parts<I, K, A, C>
+        requires done { (self.finished ≡ true) ⊎ (self.report.taken ≡ 0) }
+        ensures intake { result.intake ≡ self.intake }
+        ensures sinks { result.sinks ≡ self.sinks }
+        ensures answerer { result.answerer ≡ self.answerer }
+        ensures clock { result.clock ≡ self.clock }
+        ensures stands { Stands ⟦<I as Intake>⟧ ⟦<K as Sink>⟧ ⟦<A as Answerer>⟧ self }
+    {
+        let Desk {
+            intake,
+            sinks,
+            answerer,
+            clock,
+            out: _,
+            report: _,
+            finished: _,
+        } = self;
+        Parts {
+            intake,
+            sinks,
+            answerer,
+            clock,
+        }
+    }
+}
