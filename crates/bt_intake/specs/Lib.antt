@@ -1,0 +1,4 @@
+pub mod Lines
+pub mod Sources
+pub mod View
+pub mod Answers

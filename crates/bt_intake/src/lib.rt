@@ -1,0 +1,3 @@
+//! Lines of sources as an intake.
+#![tactic(auto)]
+
