@@ -1,5 +1,5 @@
 -- What some sources tell together, and what one call leaves of them.
-use Rattle.std.specs.Prelude.{◌≡◌, ℕ, ◌+◌, ◌≤◌, List, [], ◌∷◌, Bool, IsTrue, drop, ◌⊎◌}
+use Rattle.std.specs.Prelude.{◌≡◌, ℕ, ◌+◌, ◌≤◌, List, [], ◌∷◌, Bool, IsTrue, ◌⊎◌, length, Some, slice_get}
 use Rattle.std.specs.List.{list_all, AllZip}
 use Rattle.bt_ports.specs.Faults.{Rose}
 use Rattle.bt_ports.specs.declared.parts.Named.{Named}
@@ -42,3 +42,9 @@ abbrev pub OneRose : {S : Type 0} → Source.Ghosts S → List (Named S) → Lis
 OneRose g [] new = ⊥
 OneRose g (n ∷ ns) [] = ⊥
 OneRose g (n ∷ ns) (m ∷ ms) = Rose (g.faults n.source) (g.faults m.source) ⊎ OneRose g ns ms
+
+-- no byte is left of the source at place i
+pub record Ended {S : Type 0} (g : Source.Ghosts S) (ns : List (Named S)) (i : ℕ) : Type 0 where
+  pub at_hand : Named S
+  pub found : slice_get ns i ≡ Some at_hand
+  pub none_left : length (g.bytes at_hand.source) ≤ g.taken at_hand.source

@@ -1,0 +1,149 @@
+//! The sources of an intake, and how far they are read and cut.
+ghost use Rattle.std.specs.Prelude.{◌≡◌, ℕ, ◌+◌, ◌^◌, ◌<◌, ◌≤◌, [], ◌++◌, length, take, IfOk, OnOk, OnErr, MatchOption, IsTrue};
+ghost use Rattle.bt_intake.specs.Progress.{HasNoFeed, FeedAt};
+ghost use Rattle.bt_intake.specs.Reader.{pending, uncut, Stands, MakesItem, Gives, ReadsMore};
+ghost use Rattle.bt_intake.specs.Sources.{all_tell, SourcesKept, Ended};
+
+use crate::line::{copy_path, first_line_feed, take_line};
+use crate::reading::read_front;
+use bt_ports::NoMemory;
+use bt_ports::outside::Source;
+use bt_ports::parts::{Item, Items, Read, Sources};
+use bt_ports::sequence::Sequence;
+use std::alloc::Global;
+
+/// How many bytes a read takes at most.
+const BUFFER_SIZE: usize = 4096;
+
+/// The sources, the bytes that were taken of them and aren't cut yet, and what was taken and given.
+#[derive(Drop)]
+pub(crate) struct LineReader<S> {
+    pub(crate) alloc: Global,
+    pub(crate) sources: Sources<S>,
+    /// The place of the source that is read.
+    pub(crate) at: usize,
+    /// The bytes of the last read stand at its front; those from `from` up to `to` aren't cut yet.
+    pub(crate) buffer: Vec<u8>,
+    pub(crate) from: usize,
+    pub(crate) to: usize,
+    /// The begin of a line that earlier reads gave.
+    pub(crate) piece: Vec<u8>,
+    pub(crate) bound: u64,
+    pub(crate) taken: u64,
+    pub(crate) given: u64,
+}
+
+impl<S: Source> LineReader<S> {
+    /// The place, from the first byte that isn't cut, of the first line feed in the buffer.
+    fn first_line_feed(&self) -> Option<usize>
+        requires { Stands ⟦<S as Source>⟧ self.now }
+        ensures { MatchOption result (HasNoFeed (pending self.now)) (λ n. FeedAt (pending self.now) n) }
+    {
+        first_line_feed(&self.buffer[self.from..self.to])
+    }
+
+    /// A batch of the line that ends before the n-th byte of the buffer that isn't cut.
+    fn make_batch(&mut self, n: usize) -> Result<Items, NoMemory>
+        requires stands { Stands ⟦<S as Source>⟧ self.old }
+        requires here { self.old.at < length self.old.sources.list }
+        requires inside { n ≤ length (pending self.old) }
+        ensures same { self.new ≡ record self.old { piece = self.new.piece } }
+        ensures ok { IfOk result (λ items. MakesItem self.old (self.old.piece.items ++ take n (pending self.old)) items) }
+        ensures emptied { IfOk result (λ _. self.new.piece.items ≡ []) }
+        ensures err { OnErr result (self.new.piece.items ≡ self.old.piece.items) }
+    {
+        let mut items = Sequence::new(self.alloc);
+        items.reserve(1)?;
+        let path = copy_path(self.alloc, &self.sources.as_slice()[self.at].path)?;
+        let last = &self.buffer[self.from..self.from + n];
+        let bytes = take_line(self.alloc, &mut self.piece, last)?;
+        items.push_reserved(Item { bytes, path });
+        Ok(items)
+    }
+
+    /// Gives the line that the line feed at place n of the bytes that aren't cut ends.
+    fn give_line(&mut self, n: usize) -> Result<Items, NoMemory>
+        requires stands { Stands ⟦<S as Source>⟧ self.old }
+        requires feed { FeedAt (pending self.old) n }
+        ensures stands { Stands ⟦<S as Source>⟧ self.new }
+        ensures same { (self.new.sources ≡ self.old.sources) × (self.new.bound ≡ self.old.bound) × (self.new.taken ≡ self.old.taken) }
+        ensures gives { Gives ⟦<S as Source>⟧ result self.old self.new }
+    {
+        let items = self.make_batch(n)?;
+        self.from += n + 1;
+        self.given += 1;
+        Ok(items)
+    }
+
+    /// Gives the last piece of a source that ended, and passes that source.
+    fn give_last(&mut self) -> Result<Items, NoMemory>
+        requires stands { Stands ⟦<S as Source>⟧ self.old }
+        requires here { self.old.at < length self.old.sources.list }
+        requires fits { self.old.at + 1 < 2 ^ 64 }
+        requires empty { pending self.old ≡ [] }
+        requires some { 1 ≤ length self.old.piece.items }
+        requires room { self.old.taken < self.old.bound }
+        requires ended { IsTrue (all_tell ⟦<S as Source>⟧ self.old.sources.list) → Ended ⟦<S as Source>⟧ self.old.sources.list self.old.at }
+        ensures stands { Stands ⟦<S as Source>⟧ self.new }
+        ensures same { (self.new.sources ≡ self.old.sources) × (self.new.bound ≡ self.old.bound) × (self.new.taken ≡ self.old.taken) }
+        ensures gives { Gives ⟦<S as Source>⟧ result self.old self.new }
+    {
+        let items = self.make_batch(0)?;
+        self.at += 1;
+        self.given += 1;
+        Ok(items)
+    }
+
+    /// Keeps the bytes of the buffer that aren't cut as the begin of a line.
+    fn keep_rest(&mut self) -> Result<(), NoMemory>
+        requires stands { Stands ⟦<S as Source>⟧ self.old }
+        requires clear { HasNoFeed (pending self.old) }
+        ensures stands { Stands ⟦<S as Source>⟧ self.new }
+        ensures same { self.new ≡ record self.old { piece = self.new.piece; from = self.new.from } }
+        ensures emptied { OnOk result (pending self.new ≡ []) }
+    {
+        match self.piece.extend_from_slice(&self.buffer[self.from..self.to]) {
+            Ok(()) => {}
+            Err(_) => return Err(NoMemory),
+        }
+        self.from = self.to;
+        Ok(())
+    }
+
+    /// Reads more of the source at hand: as much as the buffer takes, and no more than the bound leaves.
+    fn read_more(&mut self) -> Read
+        requires stands { Stands ⟦<S as Source>⟧ self.old }
+        requires here { self.old.at < length self.old.sources.list }
+        requires empty { pending self.old ≡ [] }
+        requires room { self.old.taken < self.old.bound }
+        ensures stands { Stands ⟦<S as Source>⟧ self.new }
+        ensures kept { SourcesKept ⟦<S as Source>⟧ self.old.sources.list self.new.sources.list }
+        ensures same { (self.new.bound ≡ self.old.bound) × (self.new.given ≡ self.old.given) × (self.new.at ≡ self.old.at) × (self.new.piece ≡ self.old.piece) }
+        ensures reads { ReadsMore ⟦<S as Source>⟧ result self.old self.new }
+    {
+        let size = (self.bound - self.taken).min(BUFFER_SIZE as u64) as usize;
+        match read_front(&mut self.sources, self.at, &mut self.buffer, size) {
+            Read::Count(n) => {
+                self.from = 0;
+                self.to = n;
+                self.taken += n as u64;
+                Read::Count(n)
+            }
+            Read::End => Read::End,
+            Read::Failed => Read::Failed,
+        }
+    }
+
+    /// Passes a source that ended.
+    fn pass_source(&mut self)
+        requires stands { Stands ⟦<S as Source>⟧ self.old }
+        requires here { self.old.at < length self.old.sources.list }
+        requires fits { self.old.at + 1 < 2 ^ 64 }
+        requires empty { uncut self.old ≡ [] }
+        requires ended { IsTrue (all_tell ⟦<S as Source>⟧ self.old.sources.list) → Ended ⟦<S as Source>⟧ self.old.sources.list self.old.at }
+        ensures stands { Stands ⟦<S as Source>⟧ self.new }
+        ensures same { self.new ≡ record self.old { at = self.old.at + 1 } }
+    {
+        self.at += 1;
+    }
+}
