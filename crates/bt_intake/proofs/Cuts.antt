@@ -231,5 +231,5 @@ pub stops-end : (all : List SourceBytes) (given taken bound : ℕ) → taken < b
 stops-end all given taken bound w f = rw (lt-leb bound (byte_count all) (omega (arith, f.totals))) refl
 
 -- as many bytes as the bound: the input stops there
-pub stops-bound : (all : List SourceBytes) (given taken bound : ℕ) (p : Option (List ℕ)) (uncut more : List ℕ) (ss : List SourceBytes) → taken ≡ bound → Follows all given taken uncut (source p (uncut ++ more) ∷ ss) → stop bound all ≡ next.Bound
-stops-bound all given taken bound p uncut more ss w f = rw (le-leb bound (byte_count all) (omega (arith, f.totals, length-append uncut more))) refl
+pub stops-bound : (all : List SourceBytes) (given taken bound : ℕ) (uncut : List ℕ) (rest : List SourceBytes) → taken ≡ bound → length uncut ≤ byte_count rest → Follows all given taken uncut rest → stop bound all ≡ next.Bound
+stops-bound all given taken bound uncut rest w h f = rw (le-leb bound (byte_count all) (omega (arith, f.totals))) refl

@@ -5,3 +5,4 @@ pub mod Batches
 pub mod SourceLists
 pub mod Rests
 pub mod Steps
+pub mod Turns

@@ -5,3 +5,4 @@ pub mod Answers
 pub mod Progress
 pub mod Reading
 pub mod Reader
+pub mod Inside

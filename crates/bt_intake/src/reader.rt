@@ -1,14 +1,15 @@
 //! The sources of an intake, and how far they are read and cut.
-ghost use Rattle.std.specs.Prelude.{◌≡◌, ℕ, ◌+◌, ◌^◌, ◌<◌, ◌≤◌, [], ◌++◌, length, take, IfOk, OnOk, OnErr, MatchOption, IsTrue};
+ghost use Rattle.std.specs.Prelude.{◌≡◌, ℕ, ◌+◌, ◌^◌, ◌<◌, ◌≤◌, [], ◌++◌, length, take, IfOk, IfErr, OnOk, OnErr, MatchOption, IsTrue};
+ghost use Rattle.std.specs.List.{All};
 ghost use Rattle.bt_intake.specs.Progress.{HasNoFeed, FeedAt};
-ghost use Rattle.bt_intake.specs.Reader.{pending, uncut, Stands, MakesItem, Gives, ReadsMore};
+ghost use Rattle.bt_intake.specs.Reader.{pending, uncut, Stands, MakesItem, Gives, ReadsMore, Goes, Steps, Answers, answer_of};
 ghost use Rattle.bt_intake.specs.Sources.{all_tell, SourcesKept, Ended};
 
 use crate::line::{copy_path, first_line_feed, take_line};
 use crate::reading::read_front;
 use bt_ports::NoMemory;
 use bt_ports::outside::Source;
-use bt_ports::parts::{Item, Items, Read, Sources};
+use bt_ports::parts::{Item, Items, Next, Read, Sources};
 use bt_ports::sequence::Sequence;
 use std::alloc::Global;
 
@@ -34,6 +35,55 @@ pub(crate) struct LineReader<S> {
 }
 
 impl<S: Source> LineReader<S> {
+    /// A reader of which nothing was taken or given.
+    pub(crate) fn make(
+        alloc: Global,
+        sources: Sources<S>,
+        bound: u64,
+    ) -> Result<LineReader<S>, (NoMemory, Sources<S>)>
+        requires bound_fits { bound ≤ 2 ^ 48 }
+        requires untaken { IsTrue (all_tell ⟦<S as Source>⟧ sources.list) → All (λ n. ⟦<S as Source>⟧.taken n.source ≡ 0) sources.list }
+        ensures stands { IfOk result (λ r. Stands ⟦<S as Source>⟧ r) }
+        ensures ok { IfOk result (λ r. (r.sources ≡ sources) × (r.bound ≡ bound) × (r.taken ≡ 0) × (r.given ≡ 0)) }
+        ensures err { IfErr result (λ e. e.1 ≡ sources) }
+    {
+        let buffer = match vec![in alloc; 0; BUFFER_SIZE] {
+            Ok(buffer) => buffer,
+            Err(_) => return Err((NoMemory, sources)),
+        };
+        Ok(LineReader {
+            alloc,
+            sources,
+            at: 0,
+            buffer,
+            from: 0,
+            to: 0,
+            piece: Vec::new(alloc),
+            bound,
+            taken: 0,
+            given: 0,
+        })
+    }
+
+    /// The sources as they stand.
+    pub(crate) fn into_sources(self) -> Sources<S>
+        ensures { result ≡ self.sources }
+    {
+        let LineReader {
+            alloc: _,
+            sources,
+            at: _,
+            buffer: _,
+            from: _,
+            to: _,
+            piece: _,
+            bound: _,
+            taken: _,
+            given: _,
+        } = self;
+        sources
+    }
+
     /// The place, from the first byte that isn't cut, of the first line feed in the buffer.
     fn first_line_feed(&self) -> Option<usize>
         requires { Stands ⟦<S as Source>⟧ self.now }
@@ -145,5 +195,77 @@ impl<S: Source> LineReader<S> {
         ensures same { self.new ≡ record self.old { at = self.old.at + 1 } }
     {
         self.at += 1;
+    }
+
+    /// Reads once: the step where no line waits, room is left and there is a source at hand.
+    fn read_step(&mut self) -> Option<Next>
+        requires stands { Stands ⟦<S as Source>⟧ self.old }
+        requires here { self.old.at < length self.old.sources.list }
+        requires fits { self.old.at + 1 < 2 ^ 64 }
+        requires empty { pending self.old ≡ [] }
+        requires room { self.old.taken < self.old.bound }
+        ensures stands { Stands ⟦<S as Source>⟧ self.new }
+        ensures goes { Goes ⟦<S as Source>⟧ self.old self.new }
+        ensures steps { Steps ⟦<S as Source>⟧ result self.old self.new }
+    {
+        match self.read_more() {
+            Read::Count(_) => None,
+            Read::Failed => Some(Next::Failed),
+            Read::End => {
+                if self.piece.is_empty() {
+                    self.pass_source();
+                    None
+                } else {
+                    Some(answer(self.give_last()))
+                }
+            }
+        }
+    }
+
+    /// One step towards the next answer.
+    fn step(&mut self) -> Option<Next>
+        requires stands { Stands ⟦<S as Source>⟧ self.old }
+        ensures stands { Stands ⟦<S as Source>⟧ self.new }
+        ensures goes { Goes ⟦<S as Source>⟧ self.old self.new }
+        ensures steps { Steps ⟦<S as Source>⟧ result self.old self.new }
+    {
+        if let Some(n) = self.first_line_feed() {
+            return Some(answer(self.give_line(n)));
+        }
+        match self.keep_rest() {
+            Ok(()) => {}
+            Err(NoMemory) => return Some(Next::NoMemory),
+        }
+        if self.taken == self.bound {
+            return Some(Next::Bound);
+        }
+        if self.at == self.sources.len() {
+            return Some(Next::End);
+        }
+        self.read_step()
+    }
+
+    /// The next answer.
+    pub(crate) fn next(&mut self) -> Next
+        requires stands { Stands ⟦<S as Source>⟧ self.old }
+        ensures stands { Stands ⟦<S as Source>⟧ self.new }
+        ensures goes { Goes ⟦<S as Source>⟧ self.old self.new }
+        ensures answers { Answers ⟦<S as Source>⟧ result self.old self.new }
+    {
+        'steps: loop {
+            if let Some(answer) = self.step() {
+                return answer;
+            }
+        }
+    }
+}
+
+/// A batch that was made, or want of memory.
+fn answer(made: Result<Items, NoMemory>) -> Next
+    ensures { result ≡ answer_of made }
+{
+    match made {
+        Ok(items) => Next::Batch(items),
+        Err(NoMemory) => Next::NoMemory,
     }
 }
