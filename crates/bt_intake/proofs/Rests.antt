@@ -1,6 +1,8 @@
 -- What is still to be cut of some sources, as bytes of the one at hand are taken and cut.
 use Rattle.std.proofs.Common.{◌≡◌, ℕ, zero, suc, ◌+◌, ◌-◌, ◌<◌, ◌≤◌, IsTrue, List, [], ◌∷◌, ◌++◌, length, take, drop, Option, Some, slice_get, slice_set, refl, sym, ap, ◌∙◌, subst, arith, append_assoc, append-nil}
 use Rattle.std.proofs.lemmas.List.{take-append-drop, drop-drop, drop_all, length-take, length-drop}
+use Rattle.std.specs.List.{All}
+use Rattle.std.proofs.lemmas.List.Elements.{All-head, All-tail}
 use Rattle.bt_ports.specs.declared.parts.Item.{Item}
 use Rattle.bt_ports.specs.declared.parts.Named.{Named}
 use Rattle.bt_ports.specs.declared.outside.Source as Source
@@ -31,6 +33,17 @@ module _ {S : Type 0} (g : Source.Ghosts S) where
         ap (rest g (bytes ++ more)) (drop-slice_set ns i old new e) in
       let b : (bytes ++ more) ++ left new ≡ bytes ++ left old = append_assoc bytes more (left new) ∙ ap (λ x. bytes ++ x) l in
       a ∙ ap (λ q. source q ((bytes ++ more) ++ left new) ∷ rest g [] (drop (i + 1) ns)) p ∙ ap (λ x. source old.path x ∷ rest g [] (drop (i + 1) ns)) b ∙ sym (rest-at bytes ns i old e)
+
+  -- nothing was taken
+  pub rest-start : (ns : List (Named S)) → All (λ n. g.taken n.source ≡ 0) ns → rest g [] ns ≡ told g ns
+  rest-start [] h = refl
+  rest-start (n ∷ ns) h =
+      let e : left n ≡ g.bytes n.source = ap (λ k. drop k (g.bytes n.source)) (All-head (λ m. g.taken m.source ≡ 0) n ns h) in
+      ap (λ b. source n.path b ∷ rest g [] ns) e ∙ ap (λ ss. source n.path (g.bytes n.source) ∷ ss) (rest-start ns (All-tail (λ m. g.taken m.source ≡ 0) n ns h))
+
+  pub taken_count-start : (ns : List (Named S)) → All (λ n. g.taken n.source ≡ 0) ns → taken_count g ns ≡ 0
+  taken_count-start [] h = refl
+  taken_count-start (n ∷ ns) h = omega (arith, All-head (λ m. g.taken m.source ≡ 0) n ns h, taken_count-start ns (All-tail (λ m. g.taken m.source ≡ 0) n ns h))
 
   pub none-left : (n : Named S) → length (g.bytes n.source) ≤ g.taken n.source → left n ≡ []
   none-left n h = drop_all (g.taken n.source) (g.bytes n.source) h

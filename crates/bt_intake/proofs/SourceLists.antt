@@ -6,7 +6,7 @@ use Rattle.bt_ports.specs.Faults.{Rose, last_count}
 use Rattle.bt_ports.specs.declared.parts.Named.{Named}
 use Rattle.bt_ports.specs.declared.outside.Source as Source
 use Rattle.bt_intake.specs.Lines.{SourceBytes}
-use Rattle.bt_intake.specs.Sources.{all_tell, told, taken_count, fault_count, SourceKept, SourcesKept, OneRose}
+use Rattle.bt_intake.specs.Sources.{all_tell, told, openings, inputs, taken_count, fault_count, SourceKept, SourcesKept, OneRose}
 
 pub drop-get : {A : Type 0} (xs : List A) (i : ℕ) (x : A) → slice_get xs i ≡ Some x → drop i xs ≡ x ∷ drop (i + 1) xs
 drop-get [] i x e = cc
@@ -77,6 +77,22 @@ module _ {S : Type 0} (g : Source.Ghosts S) where
       cc
   told-kept (n ∷ ns) [] k t = absurd k
   told-kept [] (m ∷ ms) k t = absurd k
+
+  pub openings-kept : (ns ms : List (Named S)) → SourcesKept g ns ms → openings g ms ≡ openings g ns
+  openings-kept [] [] k = refl
+  openings-kept (n ∷ ns) (m ∷ ms) k = let p = k.0.path in let q = k.0.placed in let r = openings-kept ns ms k.1 in cc
+  openings-kept (n ∷ ns) [] k = absurd k
+  openings-kept [] (m ∷ ms) k = absurd k
+
+  pub inputs-kept : (ns ms : List (Named S)) → SourcesKept g ns ms → IsTrue (all_tell g ms) → inputs g ms ≡ inputs g ns
+  inputs-kept [] [] k t = refl
+  inputs-kept (n ∷ ns) (m ∷ ms) k t =
+      let p = and_parts (g.tells m.source) (all_tell g ms) t in
+      let e = k.0.same p.0 in
+      let r = inputs-kept ns ms k.1 p.1 in
+      cc
+  inputs-kept (n ∷ ns) [] k t = absurd k
+  inputs-kept [] (m ∷ ms) k t = absurd k
 
   pub tell-at : (ns : List (Named S)) (i : ℕ) (n : Named S) → slice_get ns i ≡ Some n → IsTrue (all_tell g ns) → IsTrue (g.tells n.source)
   tell-at [] i n e t = cc

@@ -6,14 +6,15 @@ use Rattle.bt_ports.specs.declared.parts.Named.{Named}
 use Rattle.bt_ports.specs.declared.parts.Next.{Next}
 use Rattle.bt_ports.specs.declared.parts.Next.TheVariants as next
 use Rattle.bt_ports.specs.declared.outside.Source as Source
+use Rattle.bt_ports.specs.Intake.{NextFaults, NextGives}
 use Rattle.bt_intake.specs.declared.reader.LineReader.{LineReader}
 use Rattle.bt_intake.specs.Lines.{SourceBytes, byte_count, batches, stop}
 use Rattle.bt_intake.specs.Progress.{HasNoFeed, Follows, source}
-use Rattle.bt_intake.specs.Sources.{all_tell, told, SourcesKept, OneRose}
+use Rattle.bt_intake.specs.Sources.{all_tell, told, fault_count, SourcesKept, OneRose}
 use Rattle.bt_intake.specs.Answers.{Says, ReadsLate}
 use Rattle.bt_intake.specs.Reader.{pending, uncut, rest, Stands, GivesBatch, Goes, SaysOf, Answers}
 use Rattle.bt_intake.proofs.Cuts.{dropped_all, none_left, stops-end, stops-bound}
-use Rattle.bt_intake.proofs.SourceLists.{sources_kept-same, sources_kept-then, tell-kept, told-kept, rose-kept}
+use Rattle.bt_intake.proofs.SourceLists.{sources_kept-same, sources_kept-then, tell-kept, told-kept, rose-kept, rose-count}
 use Rattle.bt_intake.proofs.Rests.{get-inside, left, rest-at, rest-none_closed}
 
 module _ {S : Type 0} (g : Source.Ghosts S) where
@@ -60,6 +61,29 @@ module _ {S : Type 0} (g : Source.Ghosts S) where
   answers-then (next.LongLine n) s t u e a b = b
   answers-then next.Bound s t u e a b = (b.0 ∙ e, b.1)
   answers-then next.NoMemory s t u e a b = b ∙ e
+
+  -- what an intake promises of its answers
+  pub same_batches : (s t : LineReader S) → Goes g s t → IsTrue (all_tell g t.sources.list) → batches t.bound (told g t.sources.list) ≡ batches s.bound (told g s.sources.list)
+  same_batches s t a q = ap (λ b. batches b (told g t.sources.list)) a.bound ∙ ap (batches s.bound) (told-kept g s.sources.list t.sources.list a.kept q)
+
+  all_given : (s t : LineReader S) → Goes g s t → IsTrue (all_tell g t.sources.list) → t.given ≡ s.given → length (batches t.bound (told g t.sources.list)) ≡ t.given → length (batches s.bound (told g s.sources.list)) ≡ s.given
+  all_given s t a q e l = ap length (sym (same_batches s t a q)) ∙ l ∙ e
+
+  pub answers-gives : (answer : Next) (s t : LineReader S) → Goes g s t → Answers g answer s t → IsTrue (all_tell g t.sources.list) → NextGives answer (batches s.bound (told g s.sources.list)) s.given t.given
+  answers-gives (next.Batch items) s t a b q = (b.given, ap (λ all. slice_get (batches s.bound all) s.given) (sym (told-kept g s.sources.list t.sources.list a.kept q)) ∙ b.next q)
+  answers-gives next.End s t a b q = (b.0, all_given s t a q b.0 (b.1.2 q))
+  answers-gives next.Failed s t a b q = b.0
+  answers-gives (next.LongLine n) s t a b q = absurd b
+  answers-gives next.Bound s t a b q = (b.0, all_given s t a q b.0 (b.1.2 q))
+  answers-gives next.NoMemory s t a b q = b
+
+  pub answers-faults : (answer : Next) (s t : LineReader S) → Goes g s t → Answers g answer s t → NextFaults answer (fault_count g s.sources.list) (fault_count g t.sources.list)
+  answers-faults (next.Batch items) s t a b = tt
+  answers-faults next.End s t a b = tt
+  answers-faults next.Failed s t a b = rose-count g s.sources.list t.sources.list a.kept b.1
+  answers-faults (next.LongLine n) s t a b = tt
+  answers-faults next.Bound s t a b = tt
+  answers-faults next.NoMemory s t a b = tt
 
   module _ (s : LineReader S) (stands : Stands g s) (empty : pending s ≡ []) where
     clear_uncut : HasNoFeed (uncut s)

@@ -2,10 +2,11 @@
 use Rattle.std.specs.Prelude.{◌≡◌, ℕ, ◌+◌, ◌<◌, ◌≤◌, List, [], ◌∷◌, length, Bool, IsTrue, Option, Some, None}
 use Rattle.bt_ports.specs.declared.outside.Source as Source
 use Rattle.bt_ports.specs.declared.parts.Item.{Item}
+use Rattle.bt_ports.specs.declared.parts.Named.{Named}
 use Rattle.bt_ports.specs.declared.parts.Next.{Next}
 use Rattle.bt_ports.specs.declared.parts.Next.TheVariants as next
 use Rattle.bt_intake.specs.Lines.{SourceBytes, batches, stop}
-use Rattle.bt_intake.specs.Sources.{all_tell, told, taken_count}
+use Rattle.bt_intake.specs.Sources.{all_tell, told, taken_count, OneRose}
 use Rattle.bt_intake.specs.View.{LineView}
 
 -- what an answer other than a batch says, where `taken` bytes were taken and `given` batches given. What it says of the
@@ -39,6 +40,15 @@ pub record Standing {S : Type 0} (g : Source.Ghosts S) (i : LineView S) : Type 0
   pub in_list : IsTrue (all_tell g i.sources.list) → i.given ≤ length (batches i.bound (told g i.sources.list))
   -- its answer other than a batch was true
   pub stop_says : StopSays i.stopped i.bound i.taken i.given (all_tell g i.sources.list) (told g i.sources.list)
+
+-- a failure comes only where the count of faults of one of the sources rose
+abbrev pub FailsWhereOneRose : {S : Type 0} → Source.Ghosts S → Next → List (Named S) → List (Named S) → Type 0
+FailsWhereOneRose g (next.Batch items) old new = Unit {0}
+FailsWhereOneRose g next.End old new = Unit {0}
+FailsWhereOneRose g next.Failed old new = OneRose g old new
+FailsWhereOneRose g (next.LongLine n) old new = Unit {0}
+FailsWhereOneRose g next.Bound old new = Unit {0}
+FailsWhereOneRose g next.NoMemory old new = Unit {0}
 
 -- a batch of one item
 abbrev pub HasOneItem : Next → Type 0

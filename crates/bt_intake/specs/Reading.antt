@@ -3,7 +3,7 @@ use Rattle.std.specs.Prelude.{◌≡◌, ℕ, List, IsTrue, Option, Some, slice_
 use Rattle.bt_ports.specs.declared.parts.Named.{Named}
 use Rattle.bt_ports.specs.declared.parts.Read.{Read}
 use Rattle.bt_ports.specs.declared.outside.Source as Source
-use Rattle.bt_ports.specs.Tells.{ReadFits, ReadFaults, ReadTakes}
+use Rattle.bt_ports.specs.Source.{ReadFits, ReadFaults, ReadTakes}
 use Rattle.bt_intake.specs.Sources.{SourceKept}
 
 -- one read of a source into a buffer of `size` bytes, which has `buffer` then

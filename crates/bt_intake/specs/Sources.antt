@@ -1,5 +1,5 @@
 -- What some sources tell together, and what one call leaves of them.
-use Rattle.std.specs.Prelude.{◌≡◌, ℕ, ◌+◌, ◌≤◌, List, [], ◌∷◌, Bool, IsTrue, ◌⊎◌, length, Some, slice_get}
+use Rattle.std.specs.Prelude.{◌≡◌, ℕ, ◌+◌, ◌≤◌, List, [], ◌∷◌, Bool, IsTrue, ◌⊎◌, length, map, Option, Some, slice_get}
 use Rattle.std.specs.List.{list_all, AllZip}
 use Rattle.bt_ports.specs.Faults.{Rose}
 use Rattle.bt_ports.specs.declared.parts.Named.{Named}
@@ -24,6 +24,14 @@ taken_count g (n ∷ ns) = g.taken n.source + taken_count g ns
 abbrev pub fault_count : {S : Type 0} → Source.Ghosts S → List (Named S) → ℕ
 fault_count g [] = 0
 fault_count g (n ∷ ns) = g.faults n.source + fault_count g ns
+
+-- the path and the place of its opening of each of them
+abbrev pub openings : {S : Type 0} → Source.Ghosts S → List (Named S) → List (Option (List ℕ) × ℕ)
+openings g ns = map (λ n. (n.path, g.place n.source)) ns
+
+-- the bytes that each of them tells, without its path
+abbrev pub inputs : {S : Type 0} → Source.Ghosts S → List (Named S) → List (List ℕ)
+inputs g ns = map (λ n. g.bytes n.source) ns
 
 -- what stays of a source: its path, its place in the list of calls and its bytes. Its count of faults doesn't fall.
 pub record SourceKept {S : Type 0} (g : Source.Ghosts S) (old new : Named S) : Type 0 where

@@ -1,10 +1,10 @@
 //! The lines of some sources as an intake.
 ghost use Rattle.std.specs.Prelude.{◌≡◌, ℕ, ◌+◌, ◌-◌, ◌^◌, ◌<◌, ◌≤◌, IfOk, IfErr, IsTrue, Option, Some, None};
 ghost use Rattle.std.specs.List.{All};
-ghost use Rattle.bt_ports.specs.Tells.{stop_of, NextFaults, NextLowers, NextGives};
+ghost use Rattle.bt_ports.specs.Intake.{stop_of, NextFaults, NextLowers, NextGives};
 ghost use Rattle.bt_intake.specs.Lines.{batches};
-ghost use Rattle.bt_intake.specs.Sources.{all_tell, told, fault_count, SourcesKept, OneRose};
-ghost use Rattle.bt_intake.specs.Answers.{Standing, HasOneItem, ReadsLate};
+ghost use Rattle.bt_intake.specs.Sources.{all_tell, told, openings, inputs, fault_count, SourcesKept};
+ghost use Rattle.bt_intake.specs.Answers.{Standing, HasOneItem, FailsWhereOneRose, ReadsLate};
 
 use crate::reader::LineReader;
 use bt_ports::NoMemory;
@@ -90,7 +90,36 @@ impl<S: Source> Intake for LineIntake<S> {
 
     ghost given = { λ i. i.given };
 
-    fn next(&mut self) -> Next {
+    ghost openings = { λ i. openings ⟦<S as Source>⟧ i.sources.list };
+
+    ghost inputs = { λ i. inputs ⟦<S as Source>⟧ i.sources.list };
+
+    /// Gives the next line as a batch of one item, or says why there is none.
+    ///
+    /// A source is read only while no line that its line feed ends waits among the bytes taken.
+    fn next(&mut self) -> Next
+        requires { self.old.stopped ≡ None }
+
+        // What every intake promises.
+        ensures counted { fault_count ⟦<S as Source>⟧ self.old.sources.list ≤ fault_count ⟦<S as Source>⟧ self.new.sources.list }
+        ensures failed { NextFaults result (fault_count ⟦<S as Source>⟧ self.old.sources.list) (fault_count ⟦<S as Source>⟧ self.new.sources.list) }
+        ensures lowers { NextLowers result (self.old.bound - self.old.given) (self.new.bound - self.new.given) }
+        ensures stops { self.new.stopped ≡ stop_of result }
+        ensures told { IsTrue (all_tell ⟦<S as Source>⟧ self.new.sources.list) → IsTrue (all_tell ⟦<S as Source>⟧ self.old.sources.list) }
+        ensures placed { openings ⟦<S as Source>⟧ self.new.sources.list ≡ openings ⟦<S as Source>⟧ self.old.sources.list }
+        ensures same { IsTrue (all_tell ⟦<S as Source>⟧ self.new.sources.list) → batches self.new.bound (told ⟦<S as Source>⟧ self.new.sources.list) ≡ batches self.old.bound (told ⟦<S as Source>⟧ self.old.sources.list) }
+        ensures read { IsTrue (all_tell ⟦<S as Source>⟧ self.new.sources.list) → inputs ⟦<S as Source>⟧ self.new.sources.list ≡ inputs ⟦<S as Source>⟧ self.old.sources.list }
+        ensures gives { IsTrue (all_tell ⟦<S as Source>⟧ self.new.sources.list) → NextGives result (batches self.old.bound (told ⟦<S as Source>⟧ self.old.sources.list)) self.old.given self.new.given }
+
+        // What this one promises beside.
+        ensures one { HasOneItem result }
+        ensures failing { FailsWhereOneRose ⟦<S as Source>⟧ result self.old.sources.list self.new.sources.list }
+        ensures kept { SourcesKept ⟦<S as Source>⟧ self.old.sources.list self.new.sources.list }
+        ensures bound { self.new.bound ≡ self.old.bound }
+        ensures taken { self.old.taken ≤ self.new.taken }
+        ensures late { IsTrue (all_tell ⟦<S as Source>⟧ self.new.sources.list) → self.old.taken < self.new.taken → ReadsLate self.old.taken self.new.taken self.old.given (told ⟦<S as Source>⟧ self.new.sources.list) }
+        ensures standing { Standing ⟦<S as Source>⟧ self.new }
+    {
         let answer = self.reader.next();
         self.stopped = stop(&answer);
         answer

@@ -6,9 +6,8 @@ ghost use Rattle.bt_intake.specs.Reader.{pending, uncut, Stands, MakesItem, Give
 ghost use Rattle.bt_intake.specs.Sources.{all_tell, SourcesKept, Ended};
 
 use crate::line::{copy_path, first_line_feed, take_line};
-use crate::reading::read_front;
+use crate::reading::{Readable, read_front};
 use bt_ports::NoMemory;
-use bt_ports::outside::Source;
 use bt_ports::parts::{Item, Items, Next, Read, Sources};
 use bt_ports::sequence::Sequence;
 use std::alloc::Global;
@@ -34,7 +33,7 @@ pub(crate) struct LineReader<S> {
     pub(crate) given: u64,
 }
 
-impl<S: Source> LineReader<S> {
+impl<S: Readable> LineReader<S> {
     /// A reader of which nothing was taken or given.
     pub(crate) fn make(
         alloc: Global,
@@ -42,8 +41,8 @@ impl<S: Source> LineReader<S> {
         bound: u64,
     ) -> Result<LineReader<S>, (NoMemory, Sources<S>)>
         requires bound_fits { bound ≤ 2 ^ 48 }
-        requires untaken { IsTrue (all_tell ⟦<S as Source>⟧ sources.list) → All (λ n. ⟦<S as Source>⟧.taken n.source ≡ 0) sources.list }
-        ensures stands { IfOk result (λ r. Stands ⟦<S as Source>⟧ r) }
+        requires untaken { IsTrue (all_tell S.shown sources.list) → All (λ n. S.shown.taken n.source ≡ 0) sources.list }
+        ensures stands { IfOk result (λ r. Stands S.shown r) }
         ensures ok { IfOk result (λ r. (r.sources ≡ sources) × (r.bound ≡ bound) × (r.taken ≡ 0) × (r.given ≡ 0)) }
         ensures err { IfErr result (λ e. e.1 ≡ sources) }
     {
@@ -86,7 +85,7 @@ impl<S: Source> LineReader<S> {
 
     /// The place, from the first byte that isn't cut, of the first line feed in the buffer.
     fn first_line_feed(&self) -> Option<usize>
-        requires { Stands ⟦<S as Source>⟧ self.now }
+        requires { Stands S.shown self.now }
         ensures { MatchOption result (HasNoFeed (pending self.now)) (λ n. FeedAt (pending self.now) n) }
     {
         first_line_feed(&self.buffer[self.from..self.to])
@@ -94,7 +93,7 @@ impl<S: Source> LineReader<S> {
 
     /// A batch of the line that ends before the n-th byte of the buffer that isn't cut.
     fn make_batch(&mut self, n: usize) -> Result<Items, NoMemory>
-        requires stands { Stands ⟦<S as Source>⟧ self.old }
+        requires stands { Stands S.shown self.old }
         requires here { self.old.at < length self.old.sources.list }
         requires inside { n ≤ length (pending self.old) }
         ensures same { self.new ≡ record self.old { piece = self.new.piece } }
@@ -113,11 +112,11 @@ impl<S: Source> LineReader<S> {
 
     /// Gives the line that the line feed at place n of the bytes that aren't cut ends.
     fn give_line(&mut self, n: usize) -> Result<Items, NoMemory>
-        requires stands { Stands ⟦<S as Source>⟧ self.old }
+        requires stands { Stands S.shown self.old }
         requires feed { FeedAt (pending self.old) n }
-        ensures stands { Stands ⟦<S as Source>⟧ self.new }
+        ensures stands { Stands S.shown self.new }
         ensures same { (self.new.sources ≡ self.old.sources) × (self.new.bound ≡ self.old.bound) × (self.new.taken ≡ self.old.taken) }
-        ensures gives { Gives ⟦<S as Source>⟧ result self.old self.new }
+        ensures gives { Gives S.shown result self.old self.new }
     {
         let items = self.make_batch(n)?;
         self.from += n + 1;
@@ -127,16 +126,16 @@ impl<S: Source> LineReader<S> {
 
     /// Gives the last piece of a source that ended, and passes that source.
     fn give_last(&mut self) -> Result<Items, NoMemory>
-        requires stands { Stands ⟦<S as Source>⟧ self.old }
+        requires stands { Stands S.shown self.old }
         requires here { self.old.at < length self.old.sources.list }
         requires fits { self.old.at + 1 < 2 ^ 64 }
         requires empty { pending self.old ≡ [] }
         requires some { 1 ≤ length self.old.piece.items }
         requires room { self.old.taken < self.old.bound }
-        requires ended { IsTrue (all_tell ⟦<S as Source>⟧ self.old.sources.list) → Ended ⟦<S as Source>⟧ self.old.sources.list self.old.at }
-        ensures stands { Stands ⟦<S as Source>⟧ self.new }
+        requires ended { IsTrue (all_tell S.shown self.old.sources.list) → Ended S.shown self.old.sources.list self.old.at }
+        ensures stands { Stands S.shown self.new }
         ensures same { (self.new.sources ≡ self.old.sources) × (self.new.bound ≡ self.old.bound) × (self.new.taken ≡ self.old.taken) }
-        ensures gives { Gives ⟦<S as Source>⟧ result self.old self.new }
+        ensures gives { Gives S.shown result self.old self.new }
     {
         let items = self.make_batch(0)?;
         self.at += 1;
@@ -146,9 +145,9 @@ impl<S: Source> LineReader<S> {
 
     /// Keeps the bytes of the buffer that aren't cut as the begin of a line.
     fn keep_rest(&mut self) -> Result<(), NoMemory>
-        requires stands { Stands ⟦<S as Source>⟧ self.old }
+        requires stands { Stands S.shown self.old }
         requires clear { HasNoFeed (pending self.old) }
-        ensures stands { Stands ⟦<S as Source>⟧ self.new }
+        ensures stands { Stands S.shown self.new }
         ensures same { self.new ≡ record self.old { piece = self.new.piece; from = self.new.from } }
         ensures emptied { OnOk result (pending self.new ≡ []) }
     {
@@ -162,14 +161,14 @@ impl<S: Source> LineReader<S> {
 
     /// Reads more of the source at hand: as much as the buffer takes, and no more than the bound leaves.
     fn read_more(&mut self) -> Read
-        requires stands { Stands ⟦<S as Source>⟧ self.old }
+        requires stands { Stands S.shown self.old }
         requires here { self.old.at < length self.old.sources.list }
         requires empty { pending self.old ≡ [] }
         requires room { self.old.taken < self.old.bound }
-        ensures stands { Stands ⟦<S as Source>⟧ self.new }
-        ensures kept { SourcesKept ⟦<S as Source>⟧ self.old.sources.list self.new.sources.list }
+        ensures stands { Stands S.shown self.new }
+        ensures kept { SourcesKept S.shown self.old.sources.list self.new.sources.list }
         ensures same { (self.new.bound ≡ self.old.bound) × (self.new.given ≡ self.old.given) × (self.new.at ≡ self.old.at) × (self.new.piece ≡ self.old.piece) }
-        ensures reads { ReadsMore ⟦<S as Source>⟧ result self.old self.new }
+        ensures reads { ReadsMore S.shown result self.old self.new }
     {
         let size = (self.bound - self.taken).min(BUFFER_SIZE as u64) as usize;
         match read_front(&mut self.sources, self.at, &mut self.buffer, size) {
@@ -186,12 +185,12 @@ impl<S: Source> LineReader<S> {
 
     /// Passes a source that ended.
     fn pass_source(&mut self)
-        requires stands { Stands ⟦<S as Source>⟧ self.old }
+        requires stands { Stands S.shown self.old }
         requires here { self.old.at < length self.old.sources.list }
         requires fits { self.old.at + 1 < 2 ^ 64 }
         requires empty { uncut self.old ≡ [] }
-        requires ended { IsTrue (all_tell ⟦<S as Source>⟧ self.old.sources.list) → Ended ⟦<S as Source>⟧ self.old.sources.list self.old.at }
-        ensures stands { Stands ⟦<S as Source>⟧ self.new }
+        requires ended { IsTrue (all_tell S.shown self.old.sources.list) → Ended S.shown self.old.sources.list self.old.at }
+        ensures stands { Stands S.shown self.new }
         ensures same { self.new ≡ record self.old { at = self.old.at + 1 } }
     {
         self.at += 1;
@@ -199,14 +198,14 @@ impl<S: Source> LineReader<S> {
 
     /// Reads once: the step where no line waits, room is left and there is a source at hand.
     fn read_step(&mut self) -> Option<Next>
-        requires stands { Stands ⟦<S as Source>⟧ self.old }
+        requires stands { Stands S.shown self.old }
         requires here { self.old.at < length self.old.sources.list }
         requires fits { self.old.at + 1 < 2 ^ 64 }
         requires empty { pending self.old ≡ [] }
         requires room { self.old.taken < self.old.bound }
-        ensures stands { Stands ⟦<S as Source>⟧ self.new }
-        ensures goes { Goes ⟦<S as Source>⟧ self.old self.new }
-        ensures steps { Steps ⟦<S as Source>⟧ result self.old self.new }
+        ensures stands { Stands S.shown self.new }
+        ensures goes { Goes S.shown self.old self.new }
+        ensures steps { Steps S.shown result self.old self.new }
     {
         match self.read_more() {
             Read::Count(_) => None,
@@ -224,10 +223,10 @@ impl<S: Source> LineReader<S> {
 
     /// One step towards the next answer.
     fn step(&mut self) -> Option<Next>
-        requires stands { Stands ⟦<S as Source>⟧ self.old }
-        ensures stands { Stands ⟦<S as Source>⟧ self.new }
-        ensures goes { Goes ⟦<S as Source>⟧ self.old self.new }
-        ensures steps { Steps ⟦<S as Source>⟧ result self.old self.new }
+        requires stands { Stands S.shown self.old }
+        ensures stands { Stands S.shown self.new }
+        ensures goes { Goes S.shown self.old self.new }
+        ensures steps { Steps S.shown result self.old self.new }
     {
         if let Some(n) = self.first_line_feed() {
             return Some(answer(self.give_line(n)));
@@ -247,10 +246,10 @@ impl<S: Source> LineReader<S> {
 
     /// The next answer.
     pub(crate) fn next(&mut self) -> Next
-        requires stands { Stands ⟦<S as Source>⟧ self.old }
-        ensures stands { Stands ⟦<S as Source>⟧ self.new }
-        ensures goes { Goes ⟦<S as Source>⟧ self.old self.new }
-        ensures answers { Answers ⟦<S as Source>⟧ result self.old self.new }
+        requires stands { Stands S.shown self.old }
+        ensures stands { Stands S.shown self.new }
+        ensures goes { Goes S.shown self.old self.new }
+        ensures answers { Answers S.shown result self.old self.new }
     {
         'steps: loop {
             if let Some(answer) = self.step() {

@@ -4,8 +4,8 @@ use Rattle.bt_intake.proofs.reader.LineReader.next.Given as goal
 
 abbrev pub invariant-steps : goal.invariant-steps
 invariant-steps g l = record {
-  stands : Stands g.S.Source l.self;
-  goes : Goes g.S.Source l.fn.self l.self;
+  stands : Stands g.S.Readable.shown l.self;
+  goes : Goes g.S.Readable.shown l.fn.self l.self;
   given : l.self.given ≡ l.fn.self.given;
 }
 
