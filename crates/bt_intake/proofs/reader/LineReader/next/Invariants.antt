@@ -1,0 +1,13 @@
+use Rattle.std.proofs.Common.{◌≡◌}
+use Rattle.bt_intake.specs.Reader.{Stands, Goes, work}
+use Rattle.bt_intake.proofs.reader.LineReader.next.Given as goal
+
+abbrev pub invariant-steps : goal.invariant-steps
+invariant-steps g l = record {
+  stands : Stands g.S.Readable.shown l.self;
+  goes : Goes g.S.Readable.shown l.fn.self l.self;
+  given : l.self.given ≡ l.fn.self.given;
+}
+
+abbrev pub decreases-steps : goal.decreases-steps
+decreases-steps g l = work l.self

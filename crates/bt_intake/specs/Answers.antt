@@ -1,0 +1,69 @@
+-- What an intake of lines says by its answers, and what holds of it between two calls.
+use Rattle.std.specs.Prelude.{◌≡◌, ℕ, ◌+◌, ◌<◌, ◌≤◌, List, [], ◌∷◌, length, Bool, IsTrue, Option, Some, None}
+use Rattle.bt_ports.specs.declared.outside.Source as Source
+use Rattle.bt_ports.specs.declared.parts.Item.{Item}
+use Rattle.bt_ports.specs.declared.parts.Named.{Named}
+use Rattle.bt_ports.specs.declared.parts.Next.{Next}
+use Rattle.bt_ports.specs.declared.parts.Next.TheVariants as next
+use Rattle.bt_intake.specs.Lines.{SourceBytes, batches, stop}
+use Rattle.bt_intake.specs.Sources.{all_tell, told, taken_count, OneRose}
+use Rattle.bt_intake.specs.View.{LineView}
+
+-- what an answer other than a batch says, where `taken` bytes were taken and `given` batches given. What it says of the
+-- sources' bytes it says where they tell them.
+--
+-- End: fewer bytes than the bound were taken, the list ends so, and all of it was given.
+-- Bound: as many bytes as the bound were taken, the list ends so, and all of it was given.
+-- Failed: each batch that is closed in the bytes taken was given.
+-- LongLine comes never, and NoMemory says nothing.
+abbrev pub Says : Next → (bound taken given : ℕ) → Bool → List SourceBytes → Type 0
+Says (next.Batch items) bound taken given tells ss = ⊥
+Says next.End bound taken given tells ss = (taken < bound) × (IsTrue tells → stop bound ss ≡ next.End) × (IsTrue tells → length (batches bound ss) ≡ given)
+Says next.Failed bound taken given tells ss = IsTrue tells → length (batches taken ss) ≤ given
+Says (next.LongLine n) bound taken given tells ss = ⊥
+Says next.Bound bound taken given tells ss = (taken ≡ bound) × (IsTrue tells → stop bound ss ≡ next.Bound) × (IsTrue tells → length (batches bound ss) ≡ given)
+Says next.NoMemory bound taken given tells ss = Unit {0}
+
+-- the answer other than a batch is true, where there is one
+abbrev pub StopSays : Option Next → (bound taken given : ℕ) → Bool → List SourceBytes → Type 0
+StopSays None bound taken given tells ss = Unit {0}
+StopSays (Some answer) bound taken given tells ss = Says answer bound taken given tells ss
+
+-- what holds of an intake of lines at any time
+pub record Standing {S : Type 0} (g : Source.Ghosts S) (i : LineView S) : Type 0 where
+  -- it took no more bytes than the bound, and each batch took a byte at least
+  pub within_bound : i.taken ≤ i.bound
+  pub given_taken : i.given ≤ i.taken
+  -- its count of the bytes taken is its sources' own
+  pub counted : IsTrue (all_tell g i.sources.list) → taken_count g i.sources.list ≡ i.taken
+  -- it gave no more batches than there are
+  pub in_list : IsTrue (all_tell g i.sources.list) → i.given ≤ length (batches i.bound (told g i.sources.list))
+  -- its answer other than a batch was true
+  pub stop_says : StopSays i.stopped i.bound i.taken i.given (all_tell g i.sources.list) (told g i.sources.list)
+
+-- a failure comes only where the count of faults of one of the sources rose
+abbrev pub FailsWhereOneRose : {S : Type 0} → Source.Ghosts S → Next → List (Named S) → List (Named S) → Type 0
+FailsWhereOneRose g (next.Batch items) old new = Unit {0}
+FailsWhereOneRose g next.End old new = Unit {0}
+FailsWhereOneRose g next.Failed old new = OneRose g old new
+FailsWhereOneRose g (next.LongLine n) old new = Unit {0}
+FailsWhereOneRose g next.Bound old new = Unit {0}
+FailsWhereOneRose g next.NoMemory old new = Unit {0}
+
+-- a batch of one item
+abbrev pub HasOneItem : Next → Type 0
+HasOneItem (next.Batch items) = length items.list ≡ 1
+HasOneItem next.End = Unit {0}
+HasOneItem next.Failed = Unit {0}
+HasOneItem (next.LongLine n) = Unit {0}
+HasOneItem next.Bound = Unit {0}
+HasOneItem next.NoMemory = Unit {0}
+
+-- where bytes were taken, of which `before` were taken before the call and `taken` after it, with `given` batches given
+-- before it: its last read began behind m bytes, took at most 4,096, and each batch that is closed in these m was given
+pub record ReadsLate (before taken given : ℕ) (ss : List SourceBytes) : Type 0 where
+  pub m : ℕ
+  pub from : before ≤ m
+  pub to : taken ≤ m + 4096
+  pub rises : m < taken
+  pub closed_given : length (batches m ss) ≤ given
