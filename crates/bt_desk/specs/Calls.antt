@@ -37,6 +37,7 @@ pub record Begins {I K A C : Type 0} (d : DeskView I K A C) (p : Parts I K A C) 
 pub record SameRun {I K A C : Type 0} (g : Intake.Ghosts I) (d e : DeskView I K A C) : Type 0 where
   pub told : IsTrue (g.tells e.intake) → IsTrue (g.tells d.intake)
   pub openings : g.openings e.intake ≡ g.openings d.intake
+  pub bound : g.bound e.intake ≡ g.bound d.intake
   pub inputs : IsTrue (g.tells e.intake) → g.inputs e.intake ≡ g.inputs d.intake
   pub batches : IsTrue (g.tells e.intake) → g.batches e.intake ≡ g.batches d.intake
   pub before : IsTrue (g.tells e.intake) → given_before g e ≡ given_before g d

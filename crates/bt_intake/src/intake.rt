@@ -94,6 +94,8 @@ impl<S: Source> Intake for LineIntake<S> {
 
     ghost inputs = { λ i. inputs ⟦<S as Source>⟧ i.sources.list };
 
+    ghost bound = { λ i. i.bound };
+
     /// Gives the next line as a batch of one item, or says why there is none.
     ///
     /// A source is read only while no line that its line feed ends waits among the bytes taken.
@@ -107,6 +109,7 @@ impl<S: Source> Intake for LineIntake<S> {
         ensures stops { self.new.stopped ≡ stop_of result }
         ensures told { IsTrue (all_tell ⟦<S as Source>⟧ self.new.sources.list) → IsTrue (all_tell ⟦<S as Source>⟧ self.old.sources.list) }
         ensures placed { openings ⟦<S as Source>⟧ self.new.sources.list ≡ openings ⟦<S as Source>⟧ self.old.sources.list }
+        ensures bounded { self.new.bound ≡ self.old.bound }
         ensures same { IsTrue (all_tell ⟦<S as Source>⟧ self.new.sources.list) → batches self.new.bound (told ⟦<S as Source>⟧ self.new.sources.list) ≡ batches self.old.bound (told ⟦<S as Source>⟧ self.old.sources.list) }
         ensures read { IsTrue (all_tell ⟦<S as Source>⟧ self.new.sources.list) → inputs ⟦<S as Source>⟧ self.new.sources.list ≡ inputs ⟦<S as Source>⟧ self.old.sources.list }
         ensures gives { IsTrue (all_tell ⟦<S as Source>⟧ self.new.sources.list) → NextGives result (batches self.old.bound (told ⟦<S as Source>⟧ self.old.sources.list)) self.old.given self.new.given }
@@ -115,7 +118,6 @@ impl<S: Source> Intake for LineIntake<S> {
         ensures one { HasOneItem result }
         ensures failing { FailsWhereOneRose ⟦<S as Source>⟧ result self.old.sources.list self.new.sources.list }
         ensures kept { SourcesKept ⟦<S as Source>⟧ self.old.sources.list self.new.sources.list }
-        ensures bound { self.new.bound ≡ self.old.bound }
         ensures taken { self.old.taken ≤ self.new.taken }
         ensures late { IsTrue (all_tell ⟦<S as Source>⟧ self.new.sources.list) → self.old.taken < self.new.taken → ReadsLate self.old.taken self.new.taken self.old.given (told ⟦<S as Source>⟧ self.new.sources.list) }
         ensures standing { Standing ⟦<S as Source>⟧ self.new }
