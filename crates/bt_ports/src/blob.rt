@@ -1,10 +1,11 @@
-// A run of bytes, which contracts see as a list of bytes.
-ghost use Rattle.std.specs.Prelude.{◌≡◌, ℕ, [], ◌++◌, OnOk, OnErr, IfOk};
+//! Bytes that are kept.
+ghost use Rattle.std.specs.Prelude.{◌≡◌, [], ◌++◌, OnOk, OnErr, IfOk};
 
 use crate::NoMemory;
 use std::alloc::Global;
 use std::marker::Model;
 
+/// A run of bytes, which contracts see as a list of bytes.
 #[derive(Drop)]
 pub struct Blob {
     vec: Vec<u8>,
@@ -19,6 +20,7 @@ impl Model for Blob {
 }
 
 impl Blob {
+    /// No bytes. It takes no memory.
     pub fn new(alloc: Global) -> Blob
         ensures { result ≡ [] }
     {
@@ -27,6 +29,7 @@ impl Blob {
         }
     }
 
+    /// A copy of `b`.
     pub fn make(alloc: Global, b: &[u8]) -> Result<Blob, NoMemory>
         ensures { IfOk result (λ t. t ≡ b.now) }
     {
@@ -36,18 +39,29 @@ impl Blob {
         }
     }
 
+    /// The bytes of the vector. It takes no memory.
     pub fn from_vec(vec: Vec<u8>) -> Blob
         ensures { result ≡ vec.items }
     {
         Blob { vec }
     }
 
+    /// The vector of the bytes. It takes no memory.
+    pub fn into_vec(self) -> Vec<u8>
+        ensures { result.items ≡ self }
+    {
+        let Blob { vec } = self;
+        vec
+    }
+
+    /// The bytes.
     pub fn as_slice(&self) -> &[u8]
         ensures { result.now ≡ self.now }
     {
         self.vec.as_slice()
     }
 
+    /// Puts `b` at the end. Without memory the bytes stay as they were.
     pub fn push_all(&mut self, b: &[u8]) -> Result<(), NoMemory>
         ensures ok { OnOk result (self.new ≡ self.old ++ b.now) }
         ensures err { OnErr result (self.new ≡ self.old) }

@@ -14,8 +14,11 @@ pub mod sequence;
 pub mod text;
 pub mod world;
 
+#[cfg(test)]
+mod tests;
+
 /// Memory was wanted and there was none.
 ///
 /// It is the one answer that no contract ties to a cause.
-#[derive(Clone, Copy)]
+#[derive(Clone, Copy, Debug, PartialEq, Eq)]
 pub struct NoMemory;

@@ -36,7 +36,7 @@ pub struct Record {
 pub type Records = Sequence<Record>;
 
 /// Why an item was refused.
-#[derive(Clone, Copy)]
+#[derive(Clone, Copy, Debug, PartialEq, Eq)]
 pub enum Cause {
     /// The record of this leaf and part was refused by its sink.
     SinkFault { leaf: u32, part: u32 },
@@ -47,7 +47,7 @@ pub enum Cause {
 }
 
 /// The answer for one item.
-#[derive(Clone, Copy)]
+#[derive(Clone, Copy, Debug, PartialEq, Eq)]
 pub enum Verdict {
     Ack,
     Refused(Cause),
@@ -67,7 +67,7 @@ pub struct AnswerCall {
 pub type AnswerCalls = Sequence<AnswerCall>;
 
 /// What a read of a source gives.
-#[derive(Clone, Copy)]
+#[derive(Clone, Copy, Debug, PartialEq, Eq)]
 pub enum Read {
     /// So many bytes at the front of the buffer.
     Count(usize),
@@ -106,15 +106,15 @@ pub enum FileRead {
 }
 
 /// A record was refused.
-#[derive(Clone, Copy)]
+#[derive(Clone, Copy, Debug, PartialEq, Eq)]
 pub struct SinkFailed;
 
 /// An answer was not taken.
-#[derive(Clone, Copy)]
+#[derive(Clone, Copy, Debug, PartialEq, Eq)]
 pub struct AnswerFailed;
 
 /// A piece was not printed whole.
-#[derive(Clone, Copy)]
+#[derive(Clone, Copy, Debug, PartialEq, Eq)]
 pub struct PrintFailed;
 
 /// A source, with the path that the items read from it have.
@@ -134,7 +134,7 @@ pub type Sinks<K> = Sequence<K>;
 pub type Printers<P> = Sequence<P>;
 
 /// What a world was asked for.
-#[derive(Clone, Copy)]
+#[derive(Clone, Copy, Debug, PartialEq, Eq)]
 pub enum What {
     File,
     Source,
