@@ -69,6 +69,7 @@ fn answer_of(ending: Ending) -> Admit
 impl<I: Intake, K: Sink, A: Answerer, C: Clock> Desk<I, K, A, C> {
     ghost use Rattle.bt_desk.specs.Stands.{Stands};
     ghost use Rattle.bt_desk.specs.History.{Settled};
+    ghost use Rattle.bt_desk.specs.Outcome.{Rises, IsClean};
     ghost use Rattle.bt_desk.specs.Calls.{IsUnwritten, IsUnanswered, Begins, SameRun, IsOut, Admits, OnlyAdmits, Delivers};
 
     /// A desk over these parts, on which nothing was taken.
@@ -185,6 +186,9 @@ impl<I: Intake, K: Sink, A: Answerer, C: Clock> Desk<I, K, A, C> {
         ensures answerer { result.answerer ≡ self.answerer }
         ensures clock { result.clock ≡ self.clock }
         ensures stands { Stands ⟦<I as Intake>⟧ ⟦<K as Sink>⟧ ⟦<A as Answerer>⟧ self }
+        ensures idle { self.out ≡ [] }
+        ensures rises { Rises ⟦<K as Sink>⟧ ⟦<A as Answerer>⟧ self }
+        ensures clean { IsClean ⟦<I as Intake>⟧ ⟦<K as Sink>⟧ ⟦<A as Answerer>⟧ self }
     {
         let Desk {
             intake,
