@@ -33,9 +33,12 @@ impl<I: Intake, K: Sink, A: Answerer, C: Clock> Model for Desk<I, K, A, C> {
 
     ghost Value = { DeskView I K A C };
 
-    ghost view = { λ d. record { intake = d.intake; sinks = d.sinks; answerer = d.answerer; clock = d.clock; out = d.out.items; report = d.report; finished = d.finished } };
+    ghost use Rattle.bt_desk.specs.Inside.{shown};
 
-    ghost invariant = { λ d. record { room : 1 ≤ vec_capacity d.out; stands : Stands ⟦<I as Intake>⟧ ⟦<K as Sink>⟧ ⟦<A as Answerer>⟧ (record { intake = d.intake; sinks = d.sinks; answerer = d.answerer; clock = d.clock; out = d.out.items; report = d.report; finished = d.finished }) } };
+    ghost view = { shown };
+
+    // There is room for the transaction that is out, and what stands between two calls holds.
+    ghost invariant = { λ d. record { room : 1 ≤ vec_capacity d.out; stands : Stands ⟦<I as Intake>⟧ ⟦<K as Sink>⟧ ⟦<A as Answerer>⟧ (shown d) } };
 }
 
 /// The batch, or the ending that another answer of an intake is.
