@@ -1,5 +1,5 @@
 -- What follows from a history of which no record was refused and no answer failed.
-use Rattle.std.proofs.Common.{◌≡◌, ℕ, zero, suc, ◌+◌, ◌≤◌, List, [], ◌∷◌, ◌++◌, length, map, refl, ap, ◌∙◌, sym, arith, Bool, true, false, cond, subst}
+use Rattle.std.proofs.Common.{◌≡◌, ℕ, ◌+◌, List, [], ◌∷◌, ◌++◌, map, refl, ap, ◌∙◌, sym, arith, Bool, true, false, cond, subst}
 use Rattle.std.specs.Prelude.{count_by, filter, not}
 use Rattle.std.proofs.lemmas.List.{map-append}
 use Rattle.std.proofs.lemmas.List.Sums.{sum_by-cons}
@@ -7,7 +7,7 @@ use Rattle.bt_ports.specs.declared.parts.Item.{Item}
 use Rattle.bt_ports.specs.declared.parts.Record.{Record}
 use Rattle.bt_ports.specs.declared.parts.AnswerCall.{AnswerCall}
 use Rattle.bt_ports.specs.declared.parts.Verdict.TheVariants.{Ack}
-use Rattle.bt_desk.specs.History.{Numbered, Settled, numbered_items, numbered_from, numbered, items_of, item_of, was_accepted, was_refused, has_failed_answer, record_of, answer_with, verdict_of, accepted_records, refused_records, answers, records_of, acks_of}
+use Rattle.bt_desk.specs.History.{Numbered, Settled, numbered_items, numbered_from, numbered, items_of, item_of, was_accepted, was_refused, has_failed_answer, record_of, answer_with, accepted_records, refused_records, answers, records_of, acks_of}
 
 -- numbering leaves the items as they were taken
 numbered_items-items : (n i : ℕ) (xs : List Settled) → map item_of (numbered_items n i xs) ≡ numbered_items n i (map (λ (s : Settled). s.item) xs)

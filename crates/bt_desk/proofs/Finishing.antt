@@ -1,13 +1,12 @@
 -- What a run that stands says of its lists once nothing is out.
-use Rattle.std.proofs.Common.{◌≡◌, ◌⊎◌, inl, inr, ℕ, zero, suc, ◌+◌, ◌<◌, ◌≤◌, List, [], ◌∷◌, length, take, map, refl, ap, ◌∙◌, sym, subst, arith, true, IsTrue, Option, Some, slice_get}
-use Rattle.bt_ports.specs.declared.parts.Item.{Item}
+use Rattle.std.proofs.Common.{◌≡◌, ◌⊎◌, inl, inr, ℕ, List, [], ◌∷◌, length, take, refl, ap, ◌∙◌, sym, subst, arith, true}
 use Rattle.bt_ports.specs.declared.outside.Sink as Sink
 use Rattle.bt_ports.specs.declared.outside.Intake as Intake
 use Rattle.bt_ports.specs.declared.outside.Answerer as Answerer
 use Rattle.bt_desk.specs.declared.report.Out.{Out}
 use Rattle.bt_desk.specs.DeskView.{DeskView, run_of}
-use Rattle.bt_desk.specs.History.{Settled, items_of, records_of, acks_of}
-use Rattle.bt_desk.specs.Stands.{StandsWith, Stands}
+use Rattle.bt_desk.specs.History.{Settled, records_of, acks_of}
+use Rattle.bt_desk.specs.Stands.{StandsWith}
 use Rattle.bt_desk.specs.Outcome.{Rises, IsClean, RecordsRise, CallsRise}
 use Rattle.bt_desk.proofs.Clean.{accepted-clean, refused-clean, answered-clean}
 use Rattle.bt_desk.proofs.Rising.{accepted-rise, refused-rise, answers-rise}
@@ -25,9 +24,9 @@ module _ {I K A C : Type 0} (gi : Intake.Ghosts I) (gk : Sink.Ghosts K) (ga : An
   idle-done (inl f) = (s.finished f).0
   idle-done (inr z) = none_out d.out (omega (arith, s.taken))
     where
-    none_out : (o : List Out) → length o ≡ 0 → o ≡ []
-    none_out [] e = refl
-    none_out (x ∷ o) e = absurd (omega arith)
+      none_out : (o : List Out) → length o ≡ 0 → o ≡ []
+      none_out [] e = refl
+      none_out (x ∷ o) e = absurd (omega arith)
 
   pub stands-clean : d.out ≡ [] → IsClean gi gk ga d
   stands-clean idle =

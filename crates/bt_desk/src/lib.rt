@@ -5,3 +5,5 @@ pub mod desk;
 pub mod parts;
 pub mod report;
 mod settle;
+#[cfg(test)]
+mod tests;

@@ -1,4 +1,3 @@
-use Rattle.std.proofs.Common.{◌≡◌, ◌⊎◌}
 use Rattle.bt_desk.proofs.Finishing.{stands-rises, stands-clean, idle-done}
 use Rattle.bt_desk.proofs.desk.Desk.into_parts.Goals as goal
 
