@@ -14,7 +14,8 @@ use std::alloc::Global;
 use std::marker::Model;
 
 /// The intake, the sinks, the answerer and the clock of a run as one state.
-#[derive(Drop)]
+///
+/// A desk isn't dropped: it is spent by `into_parts`, which needs that the run was finished or that nothing was taken.
 pub struct Desk<I: Intake, K: Sink, A: Answerer, C: Clock> {
     intake: I,
     sinks: Sinks<K>,

@@ -243,7 +243,7 @@ fn expect_report(rt: &impl Abort, report: &Report, wanted: (u64, u64, u64, u64))
 fn a_run_goes_call_by_call(rt: HostRuntime) -> Result<(), Fail> {
     let mut desk = make_desk(rt.alloc(), Ending::Ended, &[], &[])?;
     for (number, moment, items) in [(1, 7, 1), (2, 9, 2), (3, 9, 1)] {
-        let txn = job(desk.admit())?;
+        let txn = job(desk.admit()).expect(&rt, "a transaction");
         assert_eq!(rt;
             (txn.number, txn.moment, txn.items.len()),
             (number, moment, items)
@@ -319,8 +319,10 @@ fn each_ending_is_what_the_intake_answered(rt: HostRuntime) -> Result<(), Fail> 
             ending == Ending::NoMemory
         );
         desk.finish();
-        assert_eq!(rt; desk.report().ending, Some(ending));
-        expect_report(&rt, &desk.report(), (3, 4, 0, 0));
+        let report = desk.report();
+        assert_eq!(rt; report.ending, Some(ending));
+        expect_report(&rt, &report, (3, 4, 0, 0));
+        let _ = desk.into_parts();
     }
     Ok(())
 }
