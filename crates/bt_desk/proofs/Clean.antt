@@ -8,6 +8,7 @@ use Rattle.bt_ports.specs.declared.parts.Record.{Record}
 use Rattle.bt_ports.specs.declared.parts.AnswerCall.{AnswerCall}
 use Rattle.bt_ports.specs.declared.parts.Verdict.TheVariants.{Ack}
 use Rattle.bt_desk.specs.History.{Numbered, Settled, numbered_items, numbered_from, numbered, items_of, item_of, was_accepted, was_refused, has_failed_answer, record_of, answer_with, accepted_records, refused_records, answers, records_of, acks_of}
+use Rattle.bt_desk.proofs.Histories.{settled_record}
 
 -- numbering leaves the items as they were taken
 numbered_items-items : (n i : ℕ) (xs : List Settled) → map item_of (numbered_items n i xs) ≡ numbered_items n i (map (λ (s : Settled). s.item) xs)
@@ -35,10 +36,6 @@ not_false false e = cc
 -- a list of which nothing passes the test, by its first member and the rest
 none_counted : {X : Type 0} (p : X → Bool) (x : X) (xs : List X) → count_by p (x ∷ xs) ≡ 0 → (p x ≡ false) × (count_by p xs ≡ 0)
 none_counted p x xs e = cond_zero (p x) (count_by p xs) (sym (sum_by-cons (λ y. cond (p y) 1 0) x xs) ∙ e)
-
--- the record of an item of a history
-abbrev settled_record : Numbered Settled → Record
-settled_record p = record_of (item_of p)
 
 pub accepted_records-clean : (ps : List (Numbered Settled)) → count_by was_refused ps ≡ 0 → accepted_records ps ≡ map record_of (map item_of ps)
 accepted_records-clean [] e = refl
