@@ -40,7 +40,7 @@ length-numbered_items n i [] = refl
 length-numbered_items n i (x ∷ xs) = ap suc (length-numbered_items n (i + 1) xs)
 
 -- the record of an item of a history
-abbrev settled_record : Numbered Settled → Record
+abbrev pub settled_record : Numbered Settled → Record
 settled_record p = record_of (item_of p)
 
 pub accepted_records-append : (ps qs : List (Numbered Settled)) → accepted_records (ps ++ qs) ≡ accepted_records ps ++ accepted_records qs

@@ -14,7 +14,8 @@ use std::alloc::Global;
 use std::marker::Model;
 
 /// The intake, the sinks, the answerer and the clock of a run as one state.
-#[derive(Drop)]
+///
+/// A desk isn't dropped: it is spent by `into_parts`, which needs that the run was finished or that nothing was taken.
 pub struct Desk<I: Intake, K: Sink, A: Answerer, C: Clock> {
     intake: I,
     sinks: Sinks<K>,
@@ -33,9 +34,12 @@ impl<I: Intake, K: Sink, A: Answerer, C: Clock> Model for Desk<I, K, A, C> {
 
     ghost Value = { DeskView I K A C };
 
-    ghost view = { λ d. record { intake = d.intake; sinks = d.sinks; answerer = d.answerer; clock = d.clock; out = d.out.items; report = d.report; finished = d.finished } };
+    ghost use Rattle.bt_desk.specs.Inside.{shown};
 
-    ghost invariant = { λ d. record { room : 1 ≤ vec_capacity d.out; stands : Stands ⟦<I as Intake>⟧ ⟦<K as Sink>⟧ ⟦<A as Answerer>⟧ (record { intake = d.intake; sinks = d.sinks; answerer = d.answerer; clock = d.clock; out = d.out.items; report = d.report; finished = d.finished }) } };
+    ghost view = { shown };
+
+    // There is room for the transaction that is out, and what stands between two calls holds.
+    ghost invariant = { λ d. record { room : 1 ≤ vec_capacity d.out; stands : Stands ⟦<I as Intake>⟧ ⟦<K as Sink>⟧ ⟦<A as Answerer>⟧ (shown d) } };
 }
 
 /// The batch, or the ending that another answer of an intake is.
@@ -69,12 +73,16 @@ fn answer_of(ending: Ending) -> Admit
 impl<I: Intake, K: Sink, A: Answerer, C: Clock> Desk<I, K, A, C> {
     ghost use Rattle.bt_desk.specs.Stands.{Stands};
     ghost use Rattle.bt_desk.specs.History.{Settled};
+    ghost use Rattle.bt_desk.specs.Outcome.{Rises, IsClean};
     ghost use Rattle.bt_desk.specs.Calls.{IsUnwritten, IsUnanswered, Begins, SameRun, IsOut, Admits, OnlyAdmits, Delivers};
 
-    /// A desk over these parts, on which nothing was taken.
+    /// A desk over these parts, on which nothing was taken. It reserves the room for the transaction that is out.
+    ///
+    /// The intake may have given batches before. The run is of those that it gives from now on.
     ///
     /// # Errors
-    /// Where there is no memory, and the parts are handed back.
+    ///
+    /// Where there is no memory, and the parts are handed back as they were.
     pub fn make(
         alloc: Global,
         parts: Parts<I, K, A, C>,
@@ -110,7 +118,10 @@ impl<I: Intake, K: Sink, A: Answerer, C: Clock> Desk<I, K, A, C> {
         }
     }
 
-    /// Takes the next transaction, or finds how the run ends.
+    /// Takes the next transaction, with the clock's next reading as its moment, or finds how the run ends.
+    ///
+    /// Transactions are numbered from 1. Each that is taken has to be delivered before the next call. Only the intake
+    /// may take memory here, and `NoMemory` comes exactly where it found none.
     pub fn admit(&mut self) -> Admit
         requires idle { self.old.out ≡ [] }
         requires goes { self.old.report.ending ≡ None }
@@ -141,8 +152,10 @@ impl<I: Intake, K: Sink, A: Answerer, C: Clock> Desk<I, K, A, C> {
         }
     }
 
-    /// Puts each item of the transaction that the last admission gave to the sink, answers it, and counts the answer.
-    /// Takes no memory. An answer that fails isn't repeated.
+    /// Puts each item of the transaction that the last admission gave to the sink, answers it and counts the answer.
+    ///
+    /// An item is acknowledged where its record was accepted, and else refused for the sink's fault. A record that is
+    /// refused and an answer that fails change nothing for later items, and neither is repeated. Takes no memory.
     pub fn deliver(&mut self, txn: Txn)
         requires out { IsOut ⟦<I as Intake>⟧ self.old txn }
         ensures delivers { ((items : List Settled) × Delivers ⟦<K as Sink>⟧ ⟦<A as Answerer>⟧ txn self.old self.new items) }
@@ -159,7 +172,7 @@ impl<I: Intake, K: Sink, A: Answerer, C: Clock> Desk<I, K, A, C> {
         self.out.clear();
     }
 
-    /// Closes the run. Takes no memory.
+    /// Closes a run that has ended. All items of all taken transactions are answered. Takes no memory.
     pub fn finish(&mut self)
         requires ended { IsSome self.old.report.ending }
         requires idle { self.old.out ≡ [] }
@@ -177,7 +190,10 @@ impl<I: Intake, K: Sink, A: Answerer, C: Clock> Desk<I, K, A, C> {
         self.report
     }
 
-    /// Hands back the objects of the outside. Takes no memory.
+    /// Spends the desk and hands back its parts. Takes no memory.
+    ///
+    /// What then holds of them is said of the desk as it was. With counts that rose, each list is still the one that
+    /// `Stands` gives, in order, and where none was counted each item has its record and its acknowledgement.
     pub fn into_parts(self) -> Parts<I, K, A, C>
         requires done { (self.finished ≡ true) ⊎ (self.report.taken ≡ 0) }
         ensures intake { result.intake ≡ self.intake }
@@ -185,6 +201,9 @@ impl<I: Intake, K: Sink, A: Answerer, C: Clock> Desk<I, K, A, C> {
         ensures answerer { result.answerer ≡ self.answerer }
         ensures clock { result.clock ≡ self.clock }
         ensures stands { Stands ⟦<I as Intake>⟧ ⟦<K as Sink>⟧ ⟦<A as Answerer>⟧ self }
+        ensures idle { self.out ≡ [] }
+        ensures rises { Rises ⟦<K as Sink>⟧ ⟦<A as Answerer>⟧ self }
+        ensures clean { IsClean ⟦<I as Intake>⟧ ⟦<K as Sink>⟧ ⟦<A as Answerer>⟧ self }
     {
         let Desk {
             intake,

@@ -15,16 +15,19 @@ pub enum Ending {
     NoMemory,
 }
 
-/// The counts of a run. `taken` counts transactions, `acked`, `refused` and `refused_memory` count items,
-/// `answer_faults` counts answers that failed, and the others count releases by their reason.
+/// The counts of a run, each from 0, and how it ended.
+///
+/// `taken` counts transactions and `acked`, `refused` and `refused_memory` count items. `count` to `end` count, by
+/// their reason, the releases of messages that were held back. A desk holds nothing back yet, so these are 0.
 #[derive(Clone, Copy, Debug)]
 pub struct Report {
     pub taken: u64,
     pub acked: u64,
     /// All items that were answered otherwise than by an acknowledgement.
     pub refused: u64,
-    /// Those among them that were refused for want of memory.
+    /// Those among the refused that were refused for want of memory. There are none yet.
     pub refused_memory: u64,
+    /// The answers that failed. An item whose answer failed counts as acknowledged or refused all the same.
     pub answer_faults: u64,
     pub count: u64,
     pub bytes: u64,

@@ -1,0 +1,41 @@
+-- What a run that stands says of its lists once nothing is out.
+use Rattle.std.proofs.Common.{◌≡◌, ◌⊎◌, inl, inr, ℕ, List, [], ◌∷◌, length, take, refl, ap, ◌∙◌, sym, subst, arith, true}
+use Rattle.bt_ports.specs.declared.outside.Sink as Sink
+use Rattle.bt_ports.specs.declared.outside.Intake as Intake
+use Rattle.bt_ports.specs.declared.outside.Answerer as Answerer
+use Rattle.bt_desk.specs.declared.report.Out.{Out}
+use Rattle.bt_desk.specs.DeskView.{DeskView, run_of}
+use Rattle.bt_desk.specs.History.{Settled, records_of, acks_of}
+use Rattle.bt_desk.specs.Stands.{StandsWith}
+use Rattle.bt_desk.specs.Outcome.{Rises, IsClean, RecordsRise, CallsRise}
+use Rattle.bt_desk.proofs.Clean.{accepted-clean, refused-clean, answered-clean}
+use Rattle.bt_desk.proofs.Rising.{accepted-rise, refused-rise, answers-rise}
+
+module _ {I K A C : Type 0} (gi : Intake.Ghosts I) (gk : Sink.Ghosts K) (ga : Answerer.Ghosts A) (d : DeskView I K A C) (h : List (List Settled)) (s : StandsWith gi gk ga d h) where
+  pub stands-rises : Rises gk ga d
+  stands-rises = record {
+    accepted = λ k e t. subst RecordsRise (sym (s.accepted k e t)) (accepted-rise h);
+    refused = λ k e t. subst RecordsRise (sym (s.refused k e t)) (refused-rise h);
+    answered = λ t. subst CallsRise (sym (s.answered t)) (answers-rise h);
+  }
+
+  -- nothing is out of a desk that was finished, or on which nothing was taken
+  pub idle-done : (d.finished ≡ true) ⊎ (d.report.taken ≡ 0) → d.out ≡ []
+  idle-done (inl f) = (s.finished f).0
+  idle-done (inr z) = none_out d.out (omega (arith, s.taken))
+    where
+      none_out : (o : List Out) → length o ≡ 0 → o ≡ []
+      none_out [] e = refl
+      none_out (x ∷ o) e = absurd (omega arith)
+
+  pub stands-clean : d.out ≡ [] → IsClean gi gk ga d
+  stands-clean idle =
+      let all : length h ≡ d.report.taken = omega (arith, s.taken, ap length idle) in
+      record {
+        written = λ k e z ti tk.
+            let whole = s.items ti ∙ ap (λ (n : ℕ). take n (run_of gi d)) all in
+            (s.accepted k e tk ∙ accepted-clean h (s.sink_fault k e z) ∙ ap records_of whole, s.refused k e tk ∙ refused-clean h (s.sink_fault k e z));
+        answered = λ k e z y ti ta.
+            let whole = s.items ti ∙ ap (λ (n : ℕ). take n (run_of gi d)) all in
+            s.answered ta ∙ answered-clean h (s.sink_fault k e z) (s.answer_fault y) ∙ ap acks_of whole;
+      }

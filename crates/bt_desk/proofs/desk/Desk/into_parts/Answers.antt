@@ -1,0 +1,12 @@
+use Rattle.bt_desk.proofs.Finishing.{stands-rises, stands-clean, idle-done}
+use Rattle.bt_desk.proofs.desk.Desk.into_parts.Goals as goal
+
+pub returns-clause-rises : goal.returns-clause-rises
+returns-clause-rises g c = rw (← c.self.view_is) (stands-rises g.I.Intake g.K.Sink g.A.Answerer _ _ c.self.invariant.stands.1)
+
+pub returns-clause-clean : goal.returns-clause-clean
+returns-clause-clean g c =
+    let done = rw (← c.self.view_is) at c.requires.done in
+    let s = c.self.invariant.stands.1 in
+    rw (← c.self.view_is)
+    (stands-clean g.I.Intake g.K.Sink g.A.Answerer _ _ s (idle-done g.I.Intake g.K.Sink g.A.Answerer _ _ s done))
