@@ -11,11 +11,11 @@ use Rattle.bt_intake.specs.Lines.{SourceBytes, byte_count, within, is_line_feed,
 use Rattle.bt_intake.specs.Progress.{HasNoFeed, Follows, source}
 
 -- the pieces between line feeds are never none
-one_piece : (bs : List ℕ) → 1 ≤ length (slice_split is_line_feed bs)
+pub one_piece : (bs : List ℕ) → 1 ≤ length (slice_split is_line_feed bs)
 one_piece bs = omega (arith, length-slice_split is_line_feed bs)
 
 -- a piece before others is a line
-lines_among-cons : (cut_off : Bool) (line : List ℕ) (pieces : List (List ℕ)) → 1 ≤ length pieces → lines_among cut_off (line ∷ pieces) ≡ line ∷ lines_among cut_off pieces
+pub lines_among-cons : (cut_off : Bool) (line : List ℕ) (pieces : List (List ℕ)) → 1 ≤ length pieces → lines_among cut_off (line ∷ pieces) ≡ line ∷ lines_among cut_off pieces
 lines_among-cons cut_off line [] h = absurd (omega arith)
 lines_among-cons cut_off line (piece ∷ pieces) h = refl
 
@@ -36,7 +36,7 @@ take-nil : (n : ℕ) → take {A = ℕ} n [] ≡ []
 take-nil zero = refl
 take-nil (suc n) = refl
 
-leb-add : (a c d : ℕ) → leb (a + c) (a + d) ≡ leb c d
+pub leb-add : (a c d : ℕ) → leb (a + c) (a + d) ≡ leb c d
 leb-add a c d =
     elim (cases_Bool (leb c d)) [
       | inl e ↦ let h : c ≤ d = leb-true c d e in le-leb (a + c) (a + d) (omega arith) ∙ sym e
@@ -65,17 +65,17 @@ batches-line c p line tail ss h =
     ∙ items-line (reaches c (source p tail ∷ ss)) p line (take c tail) (within (c - length tail) ss) h)
 
 -- within no bytes there is no item
-items-within_zero : (b : Bool) (ss : List SourceBytes) → items b (within 0 ss) ≡ []
+pub items-within_zero : (b : Bool) (ss : List SourceBytes) → items b (within 0 ss) ≡ []
 items-within_zero b [] = refl
 items-within_zero true (s ∷ ss) = rw (zero-sub (length s.bytes)) (rw (or-true (true && eqb (byte_count (within 0 ss)) 0)) (items-within_zero true ss))
 items-within_zero false (s ∷ ss) = rw (zero-sub (length s.bytes)) (items-within_zero false ss)
 
-count-within_zero : (ss : List SourceBytes) → byte_count (within 0 ss) ≡ 0
+pub count-within_zero : (ss : List SourceBytes) → byte_count (within 0 ss) ≡ 0
 count-within_zero [] = refl
 count-within_zero (s ∷ ss) = rw (zero-sub (length s.bytes)) (rw (count-within_zero ss) refl)
 
 -- as many bytes as there are, and no more than the bound
-count-within : (c : ℕ) (ss : List SourceBytes) → byte_count (within c ss) ≡ min c (byte_count ss)
+pub count-within : (c : ℕ) (ss : List SourceBytes) → byte_count (within c ss) ≡ min c (byte_count ss)
 count-within c [] = omega arith
 count-within c (s ∷ ss) = omega (arith, length-take c s.bytes, count-within (c - length s.bytes) ss)
 
