@@ -1,5 +1,5 @@
 -- A batch of one item.
-use Rattle.std.proofs.Common.{◌≡◌, ℕ, List, [], ◌∷◌, ◌++◌, Option, ap, ◌∙◌}
+use Rattle.std.proofs.Common.{◌≡◌, ℕ, List, [], ◌∷◌, ◌++◌, Option}
 use Rattle.std.specs.Io.BufRead.{strip_last}
 use Rattle.bt_ports.specs.declared.parts.Item.{Item}
 use Rattle.bt_intake.specs.Lines.{item}

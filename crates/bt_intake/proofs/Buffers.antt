@@ -1,5 +1,5 @@
 -- Parts of the buffer: the bytes from `from` up to `to` aren't cut yet.
-use Rattle.std.proofs.Common.{◌≡◌, ℕ, ◌+◌, ◌-◌, ◌≤◌, List, [], ◌∷◌, ◌++◌, length, take, drop, refl, sym, ap, ◌∙◌, arith}
+use Rattle.std.proofs.Common.{◌≡◌, ℕ, ◌+◌, ◌-◌, ◌≤◌, List, length, take, drop, sym, ap, ◌∙◌, arith}
 use Rattle.std.proofs.lemmas.List.{length-take, length-drop, take-take, drop-take, drop-drop}
 
 pub pending_length : (buffer : List ℕ) (from to : ℕ) → from ≤ to → to ≤ length buffer → length (drop from (take to buffer)) ≡ to - from

@@ -1,23 +1,21 @@
 -- How the whole list of batches changes as bytes are cut off at its front.
-use Rattle.std.proofs.Common.{◌≡◌, ℕ, zero, suc, ◌+◌, ◌-◌, ◌<◌, ◌≤◌, min, Bool, true, false, ◌&&◌, ◌||◌, cond, leb, eqb, List, [], ◌∷◌, ◌++◌, length, take, drop, map, Option, Some, None, slice_get, refl, sym, ap, ◌∙◌, arith, append_assoc, append-nil, length-append, add-zero, zero-add, inl, inr}
-use Rattle.std.specs.List.{slice_split, All}
-use Rattle.std.specs.Io.BufRead.{strip_last}
-use Rattle.std.proofs.lemmas.List.{length-take, length-drop, take-append-le, drop_at, drop-drop, take_all}
+use Rattle.std.proofs.Common.{◌≡◌, ℕ, zero, suc, ◌+◌, ◌-◌, ◌<◌, ◌≤◌, min, Bool, true, false, ◌&&◌, ◌||◌, leb, eqb, List, [], ◌∷◌, ◌++◌, length, take, drop, map, Option, Some, slice_get, refl, sym, ap, ◌∙◌, arith, append_assoc, append-nil, length-append, zero-add, inl, inr}
+use Rattle.std.specs.List.{slice_split}
+use Rattle.std.proofs.lemmas.List.{length-take, length-drop, drop-drop, take_all}
 use Rattle.std.proofs.lemmas.List.Splits.{slice_split_at, slice_split_none, length-slice_split}
-use Rattle.std.proofs.lemmas.Bool.{cases_Bool, leb-true, leb-false, le-leb, lt-leb, ne_eqb, cases_eq, and_left, and_right}
+use Rattle.std.proofs.lemmas.Bool.{cases_Bool, leb-true, leb-false, le-leb, lt-leb, ne_eqb, and_left, and_right}
 use Rattle.std.proofs.Math.Seq.{take-append-add, take-append_seam}
 use Rattle.bt_ports.specs.declared.parts.Item.{Item}
-use Rattle.bt_ports.specs.declared.parts.Next.{Next}
 use Rattle.bt_ports.specs.declared.parts.Next.TheVariants as next
 use Rattle.bt_intake.specs.Lines.{SourceBytes, byte_count, within, is_line_feed, lines_among, item, items, reaches, batches, stop}
 use Rattle.bt_intake.specs.Progress.{HasNoFeed, Follows, source}
 
 -- the pieces between line feeds are never none
-one_piece : (bs : List ℕ) → 1 ≤ length (slice_split is_line_feed bs)
+pub one_piece : (bs : List ℕ) → 1 ≤ length (slice_split is_line_feed bs)
 one_piece bs = omega (arith, length-slice_split is_line_feed bs)
 
 -- a piece before others is a line
-lines_among-cons : (cut_off : Bool) (line : List ℕ) (pieces : List (List ℕ)) → 1 ≤ length pieces → lines_among cut_off (line ∷ pieces) ≡ line ∷ lines_among cut_off pieces
+pub lines_among-cons : (cut_off : Bool) (line : List ℕ) (pieces : List (List ℕ)) → 1 ≤ length pieces → lines_among cut_off (line ∷ pieces) ≡ line ∷ lines_among cut_off pieces
 lines_among-cons cut_off line [] h = absurd (omega arith)
 lines_among-cons cut_off line (piece ∷ pieces) h = refl
 
@@ -25,7 +23,7 @@ lines_among-cons cut_off line (piece ∷ pieces) h = refl
 items-line : (at_bound : Bool) (p : Option (List ℕ)) (line tail : List ℕ) (ss : List SourceBytes) → HasNoFeed line → items at_bound (source p (line ++ 10 ∷ tail) ∷ ss) ≡ item p line ∷ items at_bound (source p tail ∷ ss)
 items-line at_bound p line tail ss h =
     rw (slice_split_at is_line_feed line 10 tail h refl)
-        (rw (lines_among-cons (at_bound && eqb (byte_count ss) 0) line (slice_split is_line_feed tail) (one_piece tail)) refl)
+    (rw (lines_among-cons (at_bound && eqb (byte_count ss) 0) line (slice_split is_line_feed tail) (one_piece tail)) refl)
 
 zero-sub : (n : ℕ) → 0 - n ≡ 0
 zero-sub n = omega arith
@@ -38,11 +36,11 @@ take-nil : (n : ℕ) → take {A = ℕ} n [] ≡ []
 take-nil zero = refl
 take-nil (suc n) = refl
 
-leb-add : (a c d : ℕ) → leb (a + c) (a + d) ≡ leb c d
+pub leb-add : (a c d : ℕ) → leb (a + c) (a + d) ≡ leb c d
 leb-add a c d =
     elim (cases_Bool (leb c d)) [
-      inl e ↦ let h : c ≤ d = leb-true c d e in le-leb (a + c) (a + d) (omega arith) ∙ sym e
-    | inr e ↦ let h : d < c = leb-false c d e in lt-leb (a + c) (a + d) (omega arith) ∙ sym e
+      | inl e ↦ let h : c ≤ d = leb-true c d e in le-leb (a + c) (a + d) (omega arith) ∙ sym e
+      | inr e ↦ let h : d < c = leb-false c d e in lt-leb (a + c) (a + d) (omega arith) ∙ sym e
     ]
 
 same_items : (b c : Bool) (xs ys : List SourceBytes) → b ≡ c → xs ≡ ys → items b xs ≡ items c ys
@@ -64,20 +62,20 @@ within-line c p line tail ss =
 batches-line : (c : ℕ) (p : Option (List ℕ)) (line tail : List ℕ) (ss : List SourceBytes) → HasNoFeed line → batches (length line + suc c) (source p (line ++ 10 ∷ tail) ∷ ss) ≡ (item p line ∷ []) ∷ batches c (source p tail ∷ ss)
 batches-line c p line tail ss h =
     ap (map (λ i. i ∷ [])) (same_items _ _ _ _ (reaches-line c p line tail ss) (within-line c p line tail ss)
-      ∙ items-line (reaches c (source p tail ∷ ss)) p line (take c tail) (within (c - length tail) ss) h)
+    ∙ items-line (reaches c (source p tail ∷ ss)) p line (take c tail) (within (c - length tail) ss) h)
 
 -- within no bytes there is no item
-items-within_zero : (b : Bool) (ss : List SourceBytes) → items b (within 0 ss) ≡ []
+pub items-within_zero : (b : Bool) (ss : List SourceBytes) → items b (within 0 ss) ≡ []
 items-within_zero b [] = refl
 items-within_zero true (s ∷ ss) = rw (zero-sub (length s.bytes)) (rw (or-true (true && eqb (byte_count (within 0 ss)) 0)) (items-within_zero true ss))
 items-within_zero false (s ∷ ss) = rw (zero-sub (length s.bytes)) (items-within_zero false ss)
 
-count-within_zero : (ss : List SourceBytes) → byte_count (within 0 ss) ≡ 0
+pub count-within_zero : (ss : List SourceBytes) → byte_count (within 0 ss) ≡ 0
 count-within_zero [] = refl
 count-within_zero (s ∷ ss) = rw (zero-sub (length s.bytes)) (rw (count-within_zero ss) refl)
 
 -- as many bytes as there are, and no more than the bound
-count-within : (c : ℕ) (ss : List SourceBytes) → byte_count (within c ss) ≡ min c (byte_count ss)
+pub count-within : (c : ℕ) (ss : List SourceBytes) → byte_count (within c ss) ≡ min c (byte_count ss)
 count-within c [] = omega arith
 count-within c (s ∷ ss) = omega (arith, length-take c s.bytes, count-within (c - length s.bytes) ss)
 
@@ -85,9 +83,9 @@ count-within c (s ∷ ss) = omega (arith, length-take c s.bytes, count-within (c
 not_cut_off : (c : ℕ) (ss : List SourceBytes) → 1 ≤ c → (reaches c ss && eqb (byte_count (within c ss)) 0) ≡ false
 not_cut_off c ss room =
     elim (cases_Bool (reaches c ss)) [
-      inl e ↦ let h : c ≤ byte_count ss = leb-true c (byte_count ss) e in
-        and_right _ _ (ne_eqb _ _ (λ (q : byte_count (within c ss) ≡ 0). omega (arith, count-within c ss)))
-    | inr e ↦ and_left _ _ e
+      | inl e ↦ let h : c ≤ byte_count ss = leb-true c (byte_count ss) e in
+          and_right _ _ (ne_eqb _ _ (λ (q : byte_count (within c ss) ≡ 0). omega (arith, count-within c ss)))
+      | inr e ↦ and_left _ _ e
     ]
 
 batches-zero : (ss : List SourceBytes) → batches 0 ss ≡ []
@@ -99,21 +97,21 @@ batches-skip c p ss =
     let e : reaches c (source p [] ∷ ss) ≡ reaches c ss = ap (leb c) (zero-add (byte_count ss)) in
     let f : c - 0 ≡ c = omega arith in
     let g : items (reaches c ss) (within c (source p [] ∷ ss)) ≡ items (reaches c ss) (within c ss) =
-      rw f (rw (take-nil c) (rw (or-true (reaches c ss && eqb (byte_count (within c ss)) 0)) refl)) in
+    rw f (rw (take-nil c) (rw (or-true (reaches c ss && eqb (byte_count (within c ss)) 0)) refl)) in
     ap (map (λ i. i ∷ [])) (same_items _ _ (within c (source p [] ∷ ss)) _ e refl ∙ g)
 
 -- bytes without a line feed, with as many bytes as the bound, have no item: they are cut off
 batches-none : (p : Option (List ℕ)) (piece more : List ℕ) (ss : List SourceBytes) → HasNoFeed piece → batches (length piece + 0) (source p (piece ++ more) ∷ ss) ≡ []
 batches-none p piece more ss h =
     let e : reaches (length piece + 0) (source p (piece ++ more) ∷ ss) ≡ true =
-      le-leb _ _ (omega (arith, length-append piece more)) in
+    le-leb _ _ (omega (arith, length-append piece more)) in
     let f : length piece + 0 ≡ length piece = omega arith in
     let t : take (length piece + 0) (piece ++ more) ≡ piece = rw f (take-append_seam piece more) in
     let z : (length piece + 0) - length (piece ++ more) ≡ 0 = omega (arith, length-append piece more) in
     let w : within (length piece + 0) (source p (piece ++ more) ∷ ss) ≡ source p piece ∷ within 0 ss = rw t (rw z refl) in
     let k : eqb (byte_count (within 0 ss)) 0 ≡ true = rw (count-within_zero ss) refl in
     let g : items true (source p piece ∷ within 0 ss) ≡ [] =
-      rw (slice_split_none is_line_feed piece h) (rw k (items-within_zero true ss)) in
+    rw (slice_split_none is_line_feed piece h) (rw k (items-within_zero true ss)) in
     ap (map (λ i. i ∷ [])) (same_items _ _ _ _ e w ∙ g)
 
 -- a last piece is an item where bytes may still follow
@@ -126,7 +124,7 @@ batches-last c p piece ss h some room =
     let k : (reaches c ss && eqb (byte_count (within c ss)) 0) ≡ false = not_cut_off c ss room in
     let n : eqb (length piece) 0 ≡ false = ne_eqb _ _ (λ (q : length piece ≡ 0). omega arith) in
     let g : items (reaches c ss) (source p piece ∷ within c ss) ≡ item p piece ∷ items (reaches c ss) (within c ss) =
-      rw (slice_split_none is_line_feed piece h) (rw k (rw n refl)) in
+    rw (slice_split_none is_line_feed piece h) (rw k (rw n refl)) in
     ap (map (λ i. i ∷ [])) (same_items _ _ _ _ e w ∙ g)
 
 -- nothing was taken and nothing cut
@@ -138,17 +136,17 @@ pub follows-read : (all : List SourceBytes) (given taken n : ℕ) (uncut more : 
 follows-read all given taken n uncut more rest e f =
     record {
       to_come = λ room.
-        let a : (taken + n) + room ≡ taken + (n + room) = omega arith in
-        let b : length (uncut ++ more) + room ≡ length uncut + (n + room) = omega (arith, length-append uncut more) in
-        rw a (rw b (f.to_come (n + room)));
-      totals = omega (arith, length-append uncut more, f.totals)
+          let a : (taken + n) + room ≡ taken + (n + room) = omega arith in
+          let b : length (uncut ++ more) + room ≡ length uncut + (n + room) = omega (arith, length-append uncut more) in
+          rw a (rw b (f.to_come (n + room)));
+      totals = omega (arith, length-append uncut more, f.totals);
     }
 
 -- behind a last piece the list goes on with the later sources, for every room
 last_comes : (p : Option (List ℕ)) (piece : List ℕ) (ss : List SourceBytes) → HasNoFeed piece → 1 ≤ length piece → (room : ℕ) → drop 1 (batches (length piece + room) (source p piece ∷ ss)) ≡ batches (0 + room) ss
 last_comes p piece ss h some zero =
     let e : batches (length piece + 0) (source p piece ∷ ss) ≡ [] =
-      ap (λ b. batches (length piece + 0) (source p b ∷ ss)) (sym (append-nil piece)) ∙ batches-none p piece [] ss h in
+    ap (λ b. batches (length piece + 0) (source p b ∷ ss)) (sym (append-nil piece)) ∙ batches-none p piece [] ss h in
     ap (drop 1) e ∙ sym (batches-zero ss)
 last_comes p piece ss h some (suc room) =
     ap (drop 1) (batches-last (suc room) p piece ss h some (omega arith)) ∙ ap (λ c. batches c ss) (sym (zero-add (suc room)))
@@ -171,7 +169,7 @@ pub follows-line : (all : List SourceBytes) (given taken : ℕ) (p : Option (Lis
 follows-line all given taken p line tail more ss h f =
     record {
       to_come = λ room. drop-one given (batches (taken + room) all) ∙ ap (drop 1) (line_comes all given taken p line tail more ss h f room);
-      totals = omega (arith, length-append line (10 ∷ tail), length-append (line ++ 10 ∷ tail) more, length-append tail more, f.totals)
+      totals = omega (arith, length-append line (10 ∷ tail), length-append (line ++ 10 ∷ tail) more, length-append tail more, f.totals);
     }
 
 -- the batch that is next where a line with its line feed stands at the front
@@ -191,7 +189,7 @@ pub follows-last : (all : List SourceBytes) (given taken : ℕ) (p : Option (Lis
 follows-last all given taken p piece ss h some f =
     record {
       to_come = λ room. drop-one given (batches (taken + room) all) ∙ ap (drop 1) (f.to_come room) ∙ last_comes p piece ss h some room;
-      totals = omega (arith, f.totals)
+      totals = omega (arith, f.totals);
     }
 
 -- the batch that is next where a source ends with a last piece and room is left

@@ -1,7 +1,6 @@
 -- The definition of lines and cuts, computed on small inputs: 97, 98 and 99 are `a`, `b` and `c`.
-use Rattle.std.proofs.Common.{◌≡◌, ℕ, List, [], ◌∷◌, Option, None, Some, refl}
+use Rattle.std.proofs.Common.{◌≡◌, ℕ, List, [], ◌∷◌, None, Some, refl}
 use Rattle.bt_ports.specs.declared.parts.Item.{Item}
-use Rattle.bt_ports.specs.declared.parts.Next.{Next}
 use Rattle.bt_ports.specs.declared.parts.Next.TheVariants as next
 use Rattle.bt_intake.specs.Lines.{SourceBytes, batches, stop}
 

@@ -6,3 +6,4 @@ pub mod SourceLists
 pub mod Rests
 pub mod Steps
 pub mod Turns
+pub mod Closed

@@ -1,6 +1,6 @@
 -- What is still to be cut of some sources, as bytes of the one at hand are taken and cut.
-use Rattle.std.proofs.Common.{◌≡◌, ℕ, zero, suc, ◌+◌, ◌-◌, ◌<◌, ◌≤◌, IsTrue, List, [], ◌∷◌, ◌++◌, length, take, drop, Option, Some, slice_get, slice_set, refl, sym, ap, ◌∙◌, subst, arith, append_assoc, append-nil}
-use Rattle.std.proofs.lemmas.List.{take-append-drop, drop-drop, drop_all, length-take, length-drop}
+use Rattle.std.proofs.Common.{◌≡◌, ℕ, zero, suc, ◌+◌, ◌<◌, ◌≤◌, List, [], ◌∷◌, ◌++◌, length, drop, Some, slice_get, slice_set, refl, sym, ap, ◌∙◌, subst, arith, append_assoc, append-nil}
+use Rattle.std.proofs.lemmas.List.{drop_all}
 use Rattle.std.specs.List.{All}
 use Rattle.std.proofs.lemmas.List.Elements.{All-head, All-tail}
 use Rattle.bt_ports.specs.declared.parts.Item.{Item}
@@ -10,7 +10,7 @@ use Rattle.bt_intake.specs.Lines.{SourceBytes, batches, item}
 use Rattle.bt_intake.specs.Progress.{HasNoFeed, Follows, source}
 use Rattle.bt_intake.specs.Sources.{told, taken_count}
 use Rattle.bt_intake.specs.Reader.{rest}
-use Rattle.bt_intake.proofs.Cuts.{follows-start, follows-read, follows-line, next-line, follows-skip, follows-last, next-last, none_closed}
+use Rattle.bt_intake.proofs.Cuts.{follows-line, next-line, follows-skip, follows-last, next-last, none_closed}
 use Rattle.bt_intake.proofs.SourceLists.{drop-get, drop-slice_set}
 
 pub get-inside : {A : Type 0} (xs : List A) (i : ℕ) → i < length xs → (x : A) × (slice_get xs i ≡ Some x)
@@ -30,7 +30,7 @@ module _ {S : Type 0} (g : Source.Ghosts S) where
   pub rest-read : (ns : List (Named S)) (i : ℕ) (old new : Named S) (bytes more : List ℕ) → slice_get ns i ≡ Some old → new.path ≡ old.path → more ++ left new ≡ left old → rest g (bytes ++ more) (drop i (slice_set ns i new)) ≡ rest g bytes (drop i ns)
   rest-read ns i old new bytes more e p l =
       let a : rest g (bytes ++ more) (drop i (slice_set ns i new)) ≡ source new.path ((bytes ++ more) ++ left new) ∷ rest g [] (drop (i + 1) ns) =
-        ap (rest g (bytes ++ more)) (drop-slice_set ns i old new e) in
+      ap (rest g (bytes ++ more)) (drop-slice_set ns i old new e) in
       let b : (bytes ++ more) ++ left new ≡ bytes ++ left old = append_assoc bytes more (left new) ∙ ap (λ x. bytes ++ x) l in
       a ∙ ap (λ q. source q ((bytes ++ more) ++ left new) ∷ rest g [] (drop (i + 1) ns)) p ∙ ap (λ x. source old.path x ∷ rest g [] (drop (i + 1) ns)) b ∙ sym (rest-at bytes ns i old e)
 
@@ -53,14 +53,14 @@ module _ {S : Type 0} (g : Source.Ghosts S) where
     rest-line bytes line tail e h f =
         let k : Follows all given taken (line ++ 10 ∷ tail) (rest g (line ++ 10 ∷ tail) (drop i ns)) = subst (λ b. Follows all given taken b (rest g b (drop i ns))) e f in
         subst (Follows all (given + 1) taken tail) (sym (rest-at tail ns i n at))
-          (follows-line all given taken n.path line tail (left n) (rest g [] (drop (i + 1) ns)) h
-            (subst (Follows all given taken (line ++ 10 ∷ tail)) (rest-at (line ++ 10 ∷ tail) ns i n at) k))
+        (follows-line all given taken n.path line tail (left n) (rest g [] (drop (i + 1) ns)) h
+        (subst (Follows all given taken (line ++ 10 ∷ tail)) (rest-at (line ++ 10 ∷ tail) ns i n at) k))
 
     pub rest-next_line : (bound : ℕ) (bytes line tail : List ℕ) → bytes ≡ line ++ 10 ∷ tail → HasNoFeed line → taken ≤ bound → Follows all given taken bytes (rest g bytes (drop i ns)) → (later : List (List Item)) × (drop given (batches bound all) ≡ (item n.path line ∷ []) ∷ later)
     rest-next_line bound bytes line tail e h w f =
         let k : Follows all given taken (line ++ 10 ∷ tail) (rest g (line ++ 10 ∷ tail) (drop i ns)) = subst (λ b. Follows all given taken b (rest g b (drop i ns))) e f in
         next-line all given taken bound n.path line tail (left n) (rest g [] (drop (i + 1) ns)) h w
-          (subst (Follows all given taken (line ++ 10 ∷ tail)) (rest-at (line ++ 10 ∷ tail) ns i n at) k)
+        (subst (Follows all given taken (line ++ 10 ∷ tail)) (rest-at (line ++ 10 ∷ tail) ns i n at) k)
 
     pub rest-ended : (bytes : List ℕ) → length (g.bytes n.source) ≤ g.taken n.source → rest g bytes (drop i ns) ≡ source n.path bytes ∷ rest g [] (drop (i + 1) ns)
     rest-ended bytes h = rest-at bytes ns i n at ∙ ap (λ x. source n.path x ∷ rest g [] (drop (i + 1) ns)) (ap (λ x. bytes ++ x) (none-left n h) ∙ append-nil bytes)

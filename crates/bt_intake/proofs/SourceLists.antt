@@ -1,11 +1,9 @@
 -- Lists of sources, of which one changes.
-use Rattle.std.proofs.Common.{◌≡◌, ℕ, zero, suc, ◌+◌, ◌-◌, ◌<◌, ◌≤◌, min, Bool, true, false, ◌&&◌, IsTrue, List, [], ◌∷◌, length, drop, Option, None, Some, slice_get, slice_set, refl, sym, ap, ◌∙◌, subst, arith, inl, inr}
-use Rattle.std.specs.List.{AllZip, list_all}
+use Rattle.std.proofs.Common.{◌≡◌, ℕ, zero, suc, ◌+◌, ◌≤◌, IsTrue, List, [], ◌∷◌, length, drop, Some, slice_get, slice_set, refl, sym, ap, ◌∙◌, subst, arith, inl, inr}
 use Rattle.std.proofs.lemmas.Bool.{and_parts, and_from}
-use Rattle.bt_ports.specs.Faults.{Rose, last_count}
+use Rattle.bt_ports.specs.Faults.{Rose}
 use Rattle.bt_ports.specs.declared.parts.Named.{Named}
 use Rattle.bt_ports.specs.declared.outside.Source as Source
-use Rattle.bt_intake.specs.Lines.{SourceBytes}
 use Rattle.bt_intake.specs.Sources.{all_tell, told, openings, inputs, taken_count, fault_count, SourceKept, SourcesKept, OneRose}
 
 pub drop-get : {A : Type 0} (xs : List A) (i : ℕ) (x : A) → slice_get xs i ≡ Some x → drop i xs ≡ x ∷ drop (i + 1) xs

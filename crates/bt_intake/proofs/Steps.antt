@@ -1,7 +1,5 @@
 -- What stands of the reader after each of its steps.
-use Rattle.std.proofs.Common.{◌≡◌, ℕ, zero, suc, ◌+◌, ◌-◌, ◌^◌, ◌<◌, ◌≤◌, false, IsTrue, List, [], ◌∷◌, ◌++◌, length, take, drop, Option, Some, slice_get, slice_set, refl, sym, ap, ◌∙◌, subst, arith, append_assoc, append-nil, length-append, inl, inr}
-use Rattle.std.specs.List.{All}
-use Rattle.std.specs.Io.BufRead.{strip_last}
+use Rattle.std.proofs.Common.{◌≡◌, ℕ, ◌+◌, ◌-◌, ◌<◌, ◌≤◌, false, IsTrue, List, [], ◌∷◌, ◌++◌, length, take, drop, Some, slice_get, slice_set, refl, sym, ap, ◌∙◌, subst, arith, append_assoc, append-nil, length-append, inl, inr}
 use Rattle.std.proofs.lemmas.Bool.{cases_lt}
 use Rattle.std.proofs.lemmas.List.{take-append-drop, length-take, length-drop, take-take, drop-drop, drop_all}
 use Rattle.std.proofs.lemmas.Option.{same_Some}
@@ -12,8 +10,8 @@ use Rattle.bt_ports.specs.declared.parts.Named.{Named}
 use Rattle.bt_ports.specs.declared.parts.Read.{Read}
 use Rattle.bt_ports.specs.declared.outside.Source as Source
 use Rattle.bt_intake.specs.declared.reader.LineReader.{LineReader}
-use Rattle.bt_intake.specs.Lines.{SourceBytes, is_line_feed, batches, item}
-use Rattle.bt_intake.specs.Progress.{HasNoFeed, FeedAt, Follows, source}
+use Rattle.bt_intake.specs.Lines.{is_line_feed, batches, item}
+use Rattle.bt_intake.specs.Progress.{HasNoFeed, FeedAt, Follows}
 use Rattle.bt_intake.specs.Sources.{all_tell, told, taken_count, SourcesKept, Ended}
 use Rattle.bt_intake.specs.Reading.{ReadsAt}
 use Rattle.bt_intake.specs.Reader.{pending, uncut, rest, Stands, MakesItem, GivesBatch}
@@ -76,7 +74,7 @@ module _ {S : Type 0} (g : Source.Ghosts S) (s : LineReader S) (stands : Stands 
           counted = stands.counted;
           in_list = λ t. more_than_dropped s.given _ _ _ (line_next m at t).1;
           follows = λ q. subst (λ u. Follows (told g s.sources.list) (s.given + 1) s.taken u (rest g u (drop s.at s.sources.list))) (sym (line_leaves t emptied))
-            (rest-line g (told g s.sources.list) s.given s.taken s.sources.list s.at m at (uncut s) _ (drop (n + 1) (pending s)) line_uncut line_clear (stands.follows q));
+              (rest-line g (told g s.sources.list) s.given s.taken s.sources.list s.at m at (uncut s) _ (drop (n + 1) (pending s)) line_uncut line_clear (stands.follows q));
         }
 
     pub stands-line : (t : LineReader S) → t ≡ record s { piece = t.piece } → t.piece.items ≡ [] → Stands g (record t { from = t.from + (n + 1); given = t.given + 1 })
@@ -123,11 +121,11 @@ module _ {S : Type 0} (g : Source.Ghosts S) (s : LineReader S) (stands : Stands 
     used = stands.used;
     counted = stands.counted;
     in_list = stands.in_list;
-    follows = λ q. 
-      let e = ended q in
-      subst (λ u. Follows (told g s.sources.list) s.given s.taken u (rest g u (drop (s.at + 1) s.sources.list))) (sym empty)
+    follows = λ q.
+        let e = ended q in
+        subst (λ u. Follows (told g s.sources.list) s.given s.taken u (rest g u (drop (s.at + 1) s.sources.list))) (sym empty)
         (rest-skip g (told g s.sources.list) s.given s.taken s.sources.list s.at e.at_hand e.found e.none_left
-          (subst (λ u. Follows (told g s.sources.list) s.given s.taken u (rest g u (drop s.at s.sources.list))) empty (stands.follows q)));
+        (subst (λ u. Follows (told g s.sources.list) s.given s.taken u (rest g u (drop s.at s.sources.list))) empty (stands.follows q)));
   }
 
   -- the last piece of a source that ended
@@ -143,7 +141,7 @@ module _ {S : Type 0} (g : Source.Ghosts S) (s : LineReader S) (stands : Stands 
         let e = ended q in
         let same : e.at_hand ≡ m = same_Some _ _ (sym e.found ∙ at) in
         rest-next_last g (told g s.sources.list) s.given s.taken s.sources.list s.at m at s.bound s.piece.items stands.clear some
-          (subst (λ n. length (g.bytes n.source) ≤ g.taken n.source) same e.none_left) room (piece_follows q)
+        (subst (λ n. length (g.bytes n.source) ≤ g.taken n.source) same e.none_left) room (piece_follows q)
 
     last_leaves : (t : LineReader S) → t.piece.items ≡ [] → t.piece.items ++ pending s ≡ []
     last_leaves t emptied = ap (λ x. x ++ pending s) emptied ∙ empty
@@ -164,8 +162,8 @@ module _ {S : Type 0} (g : Source.Ghosts S) (s : LineReader S) (stands : Stands 
           counted = stands.counted;
           in_list = λ q. more_than_dropped s.given _ _ _ (last_next m at q).1;
           follows = λ q.
-            let e = ended q in
-            subst (λ u. Follows (told g s.sources.list) (s.given + 1) s.taken u (rest g u (drop (s.at + 1) s.sources.list))) (sym (last_leaves t emptied))
+              let e = ended q in
+              subst (λ u. Follows (told g s.sources.list) (s.given + 1) s.taken u (rest g u (drop (s.at + 1) s.sources.list))) (sym (last_leaves t emptied))
               (rest-last g (told g s.sources.list) s.given s.taken s.sources.list s.at e.at_hand e.found s.piece.items stands.clear some e.none_left (piece_follows q));
         }
 
@@ -210,10 +208,10 @@ module _ {S : Type 0} (g : Source.Ghosts S) (s : LineReader S) (stands : Stands 
       quiet_rest : IsTrue (all_tell g t.sources.list) → rest g (uncut s) (drop s.at t.sources.list) ≡ rest g (uncut s) (drop s.at s.sources.list)
       quiet_rest q =
           let l : [] ++ left g here.new ≡ left g here.old =
-            ap (λ n. drop n (g.bytes here.new.source)) (same q) ∙ ap (drop (g.taken here.old.source)) (here.reads.kept.same (read_tells q)) in
+          ap (λ n. drop n (g.bytes here.new.source)) (same q) ∙ ap (drop (g.taken here.old.source)) (here.reads.kept.same (read_tells q)) in
           ap (λ ns. rest g (uncut s) (drop s.at ns)) here.is
-            ∙ ap (λ b. rest g b (drop s.at (slice_set s.sources.list s.at here.new))) (sym (append-nil (uncut s)))
-            ∙ rest-read g s.sources.list s.at here.old here.new (uncut s) [] here.was here.reads.kept.path l
+          ∙ ap (λ b. rest g b (drop s.at (slice_set s.sources.list s.at here.new))) (sym (append-nil (uncut s)))
+          ∙ rest-read g s.sources.list s.at here.old here.new (uncut s) [] here.was here.reads.kept.path l
 
       pub stands-quiet : Stands g (record s { sources = t.sources; buffer = t.buffer })
       stands-quiet = record {
@@ -229,11 +227,11 @@ module _ {S : Type 0} (g : Source.Ghosts S) (s : LineReader S) (stands : Stands 
         counted = λ q. omega (arith, read_taken, same q, stands.counted (tell-kept g s.sources.list t.sources.list read-kept q));
         in_list = λ q. subst (λ all. s.given ≤ length (batches s.bound all)) (sym (told-kept g s.sources.list t.sources.list read-kept q)) (stands.in_list (tell-kept g s.sources.list t.sources.list read-kept q));
         follows = λ q.
-          subst (λ all. Follows all s.given s.taken (s.piece.items ++ drop s.from (take s.to t.buffer.items)) (rest g (s.piece.items ++ drop s.from (take s.to t.buffer.items)) (drop s.at t.sources.list)))
+            subst (λ all. Follows all s.given s.taken (s.piece.items ++ drop s.from (take s.to t.buffer.items)) (rest g (s.piece.items ++ drop s.from (take s.to t.buffer.items)) (drop s.at t.sources.list)))
             (sym (told-kept g s.sources.list t.sources.list read-kept q))
             (subst (λ u. Follows (told g s.sources.list) s.given s.taken u (rest g u (drop s.at t.sources.list))) (sym quiet_uncut)
-              (subst (Follows (told g s.sources.list) s.given s.taken (uncut s)) (sym (quiet_rest q))
-                (stands.follows (tell-kept g s.sources.list t.sources.list read-kept q))));
+            (subst (Follows (told g s.sources.list) s.given s.taken (uncut s)) (sym (quiet_rest q))
+            (stands.follows (tell-kept g s.sources.list t.sources.list read-kept q))));
       }
 
     -- a read that takes n bytes
@@ -247,13 +245,13 @@ module _ {S : Type 0} (g : Source.Ghosts S) (s : LineReader S) (stands : Stands 
       more_rest : IsTrue (all_tell g t.sources.list) → rest g (uncut s ++ take n t.buffer.items) (drop s.at t.sources.list) ≡ rest g (uncut s) (drop s.at s.sources.list)
       more_rest q =
           let b : take n t.buffer.items ≡ take n (left g here.old) =
-            sym (take-take n size t.buffer.items fits) ∙ ap (take n) (sym fronts) ∙ (takes q).1 in
+          sym (take-take n size t.buffer.items fits) ∙ ap (take n) (sym fronts) ∙ (takes q).1 in
           let d : left g here.new ≡ drop n (left g here.old) =
-            ap (λ k. drop k (g.bytes here.new.source)) (takes q).0 ∙ ap (drop (g.taken here.old.source + n)) (here.reads.kept.same (read_tells q)) ∙ sym (drop-drop n (g.taken here.old.source) (g.bytes here.old.source)) in
+          ap (λ k. drop k (g.bytes here.new.source)) (takes q).0 ∙ ap (drop (g.taken here.old.source + n)) (here.reads.kept.same (read_tells q)) ∙ sym (drop-drop n (g.taken here.old.source) (g.bytes here.old.source)) in
           let l : take n t.buffer.items ++ left g here.new ≡ left g here.old =
-            ap (λ x. x ++ left g here.new) b ∙ ap (λ x. take n (left g here.old) ++ x) d ∙ take-append-drop n (left g here.old) in
+          ap (λ x. x ++ left g here.new) b ∙ ap (λ x. take n (left g here.old) ++ x) d ∙ take-append-drop n (left g here.old) in
           ap (λ ns. rest g (uncut s ++ take n t.buffer.items) (drop s.at ns)) here.is
-            ∙ rest-read g s.sources.list s.at here.old here.new (uncut s) (take n t.buffer.items) here.was here.reads.kept.path l
+          ∙ rest-read g s.sources.list s.at here.old here.new (uncut s) (take n t.buffer.items) here.was here.reads.kept.path l
 
       pub stands-more : s.at < length s.sources.list → Stands g (record s { sources = t.sources; buffer = t.buffer; from = 0; to = n; taken = s.taken + n })
       stands-more inside = record {
@@ -269,10 +267,10 @@ module _ {S : Type 0} (g : Source.Ghosts S) (s : LineReader S) (stands : Stands 
         counted = λ q. omega (arith, read_taken, (takes q).0, stands.counted (tell-kept g s.sources.list t.sources.list read-kept q));
         in_list = λ q. subst (λ all. s.given ≤ length (batches s.bound all)) (sym (told-kept g s.sources.list t.sources.list read-kept q)) (stands.in_list (tell-kept g s.sources.list t.sources.list read-kept q));
         follows = λ q.
-          subst (λ all. Follows all s.given (s.taken + n) (s.piece.items ++ drop 0 (take n t.buffer.items)) (rest g (s.piece.items ++ drop 0 (take n t.buffer.items)) (drop s.at t.sources.list)))
+            subst (λ all. Follows all s.given (s.taken + n) (s.piece.items ++ drop 0 (take n t.buffer.items)) (rest g (s.piece.items ++ drop 0 (take n t.buffer.items)) (drop s.at t.sources.list)))
             (sym (told-kept g s.sources.list t.sources.list read-kept q))
             (subst (λ u. Follows (told g s.sources.list) s.given (s.taken + n) u (rest g u (drop s.at t.sources.list))) (sym more_uncut)
-              (subst (Follows (told g s.sources.list) s.given (s.taken + n) (uncut s ++ take n t.buffer.items)) (sym (more_rest q))
-                (follows-read (told g s.sources.list) s.given s.taken n (uncut s) (take n t.buffer.items) (rest g (uncut s) (drop s.at s.sources.list)) more_length
-                  (stands.follows (tell-kept g s.sources.list t.sources.list read-kept q)))));
+            (subst (Follows (told g s.sources.list) s.given (s.taken + n) (uncut s ++ take n t.buffer.items)) (sym (more_rest q))
+            (follows-read (told g s.sources.list) s.given s.taken n (uncut s) (take n t.buffer.items) (rest g (uncut s) (drop s.at s.sources.list)) more_length
+            (stands.follows (tell-kept g s.sources.list t.sources.list read-kept q)))));
       }

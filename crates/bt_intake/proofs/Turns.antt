@@ -1,18 +1,17 @@
 -- What the answers say, and how far steps go.
-use Rattle.std.proofs.Common.{◌≡◌, ℕ, zero, suc, ◌+◌, ◌-◌, ◌<◌, ◌≤◌, IsTrue, List, [], ◌∷◌, ◌++◌, length, take, drop, Option, Some, None, slice_get, refl, sym, ap, ◌∙◌, subst, arith, append-nil, length-append, inl, inr}
+use Rattle.std.proofs.Common.{◌≡◌, ℕ, ◌+◌, ◌<◌, ◌≤◌, IsTrue, [], ◌++◌, length, drop, slice_get, sym, ap, ◌∙◌, subst, arith, append-nil, length-append, inl, inr}
 use Rattle.std.proofs.lemmas.Bool.{cases_lt}
 use Rattle.std.proofs.lemmas.List.{drop_all}
-use Rattle.bt_ports.specs.declared.parts.Named.{Named}
 use Rattle.bt_ports.specs.declared.parts.Next.{Next}
 use Rattle.bt_ports.specs.declared.parts.Next.TheVariants as next
 use Rattle.bt_ports.specs.declared.outside.Source as Source
 use Rattle.bt_ports.specs.Intake.{NextFaults, NextGives}
 use Rattle.bt_intake.specs.declared.reader.LineReader.{LineReader}
-use Rattle.bt_intake.specs.Lines.{SourceBytes, byte_count, batches, stop}
-use Rattle.bt_intake.specs.Progress.{HasNoFeed, Follows, source}
-use Rattle.bt_intake.specs.Sources.{all_tell, told, fault_count, SourcesKept, OneRose}
-use Rattle.bt_intake.specs.Answers.{Says, ReadsLate}
-use Rattle.bt_intake.specs.Reader.{pending, uncut, rest, Stands, GivesBatch, Goes, SaysOf, Answers}
+use Rattle.bt_intake.specs.Lines.{byte_count, batches}
+use Rattle.bt_intake.specs.Progress.{HasNoFeed, Follows}
+use Rattle.bt_intake.specs.Sources.{all_tell, told, fault_count, SourcesKept}
+use Rattle.bt_intake.specs.Answers.{ReadsLate}
+use Rattle.bt_intake.specs.Reader.{pending, uncut, rest, Stands, Goes, SaysOf, Answers}
 use Rattle.bt_intake.proofs.Cuts.{dropped_all, none_left, stops-end, stops-bound}
 use Rattle.bt_intake.proofs.SourceLists.{sources_kept-same, sources_kept-then, tell-kept, told-kept, rose-kept, rose-count}
 use Rattle.bt_intake.proofs.Rests.{get-inside, left, rest-at, rest-none_closed}
@@ -34,20 +33,20 @@ module _ {S : Type 0} (g : Source.Ghosts S) where
     bound = b.bound ∙ a.bound;
     taken = omega (arith, a.taken, b.taken);
     late = λ q h. elim (cases_lt t.taken u.taken) [
-        inl k ↦ let l = b.late q k in record {
-          m = l.m;
-          from = omega (arith, a.taken, l.from);
-          to = l.to;
-          rises = l.rises;
-          closed_given = omega (arith, l.closed_given, e);
-        }
+      | inl k ↦ let l = b.late q k in record {
+        m = l.m;
+        from = omega (arith, a.taken, l.from);
+        to = l.to;
+        rises = l.rises;
+        closed_given = omega (arith, l.closed_given, e);
+      }
       | inr k ↦
-        let same : u.taken ≡ t.taken = omega (arith, b.taken) in
-        let q2 = tell-kept g t.sources.list u.sources.list b.kept q in
-        let l = a.late q2 (omega arith) in
-        let bytes : told g u.sources.list ≡ told g t.sources.list = told-kept g t.sources.list u.sources.list b.kept q in
-        subst (λ n. ReadsLate s.taken n s.given (told g u.sources.list)) (sym same) (subst (ReadsLate s.taken t.taken s.given) (sym bytes) l)
-      ];
+          let same : u.taken ≡ t.taken = omega (arith, b.taken) in
+          let q2 = tell-kept g t.sources.list u.sources.list b.kept q in
+          let l = a.late q2 (omega arith) in
+          let bytes : told g u.sources.list ≡ told g t.sources.list = told-kept g t.sources.list u.sources.list b.kept q in
+          subst (λ n. ReadsLate s.taken n s.given (told g u.sources.list)) (sym same) (subst (ReadsLate s.taken t.taken s.given) (sym bytes) l)
+    ];
   }
 
   pub answers-then : (answer : Next) (s t u : LineReader S) → t.given ≡ s.given → Goes g s t → Answers g answer t u → Answers g answer s u
@@ -114,7 +113,7 @@ module _ {S : Type 0} (g : Source.Ghosts S) where
     module _ (past : length s.sources.list ≤ s.at) where
       follows_past : IsTrue (all_tell g s.sources.list) → Follows (told g s.sources.list) s.given s.taken [] []
       follows_past q = subst (λ ns. Follows (told g s.sources.list) s.given s.taken [] (rest g [] ns)) (drop_all s.at s.sources.list past)
-        (subst (λ b. Follows (told g s.sources.list) s.given s.taken b (rest g b (drop s.at s.sources.list))) (stands.done past) (stands.follows q))
+          (subst (λ b. Follows (told g s.sources.list) s.given s.taken b (rest g b (drop s.at s.sources.list))) (stands.done past) (stands.follows q))
 
       given_past : IsTrue (all_tell g s.sources.list) → length (batches s.bound (told g s.sources.list)) ≡ s.given
       given_past q = omega (arith, dropped_all s.given _ (none_left (told g s.sources.list) s.given s.taken s.bound stands.within_bound (follows_past q)), stands.in_list q)
@@ -126,20 +125,22 @@ module _ {S : Type 0} (g : Source.Ghosts S) where
 
     pub says-bound : s.taken ≡ s.bound → SaysOf g next.Bound s
     says-bound full = elim (cases_lt s.at (length s.sources.list)) [
-        inl here ↦
+      | inl here ↦
           let (m, at) = get-inside s.sources.list s.at here in
           let r = rest-at g (uncut s) s.sources.list s.at m at in
           let n : length (uncut s) ≤ byte_count (rest g (uncut s) (drop s.at s.sources.list)) =
-            omega (arith, ap byte_count r, length-append (uncut s) (left g m)) in
-          (full, λ q. stops-bound (told g s.sources.list) s.given s.taken s.bound (uncut s) _ full n (stands.follows q),
+          omega (arith, ap byte_count r, length-append (uncut s) (left g m)) in (
+            full,
+            λ q. stops-bound (told g s.sources.list) s.given s.taken s.bound (uncut s) _ full n (stands.follows q),
             λ q. subst (λ b. length (batches b (told g s.sources.list)) ≡ s.given) full
-              (omega (arith, closed_given here q, subst (λ b. s.given ≤ length (batches b (told g s.sources.list))) (sym full) (stands.in_list q))))
+                (omega (arith, closed_given here q, subst (λ b. s.given ≤ length (batches b (told g s.sources.list))) (sym full) (stands.in_list q))),
+          )
       | inr past ↦ (full, λ q. stops-bound (told g s.sources.list) s.given s.taken s.bound [] [] full (omega arith) (follows_past past q), λ q. given_past past q)
-      ]
+    ]
 
     -- a read failed
     pub says-failed : (t : LineReader S) → s.at < length s.sources.list → SourcesKept g s.sources.list t.sources.list → t.given ≡ s.given → t.taken ≡ s.taken → SaysOf g next.Failed t
     says-failed t here kept e k = λ q.
         let a : length (batches t.taken (told g s.sources.list)) ≤ t.given =
-          subst (λ n. length (batches n (told g s.sources.list)) ≤ t.given) (sym k) (omega (arith, closed_given here (tell-kept g s.sources.list t.sources.list kept q), e)) in
+        subst (λ n. length (batches n (told g s.sources.list)) ≤ t.given) (sym k) (omega (arith, closed_given here (tell-kept g s.sources.list t.sources.list kept q), e)) in
         subst (λ all. length (batches t.taken all) ≤ t.given) (sym (told-kept g s.sources.list t.sources.list kept q)) a

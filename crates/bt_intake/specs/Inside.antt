@@ -1,5 +1,5 @@
 -- What contracts see of an intake of lines, and what holds inside it.
-use Rattle.std.specs.Prelude.{ℕ, Option}
+use Rattle.std.specs.Prelude.{Option}
 use Rattle.bt_ports.specs.declared.parts.Next.{Next}
 use Rattle.bt_ports.specs.declared.outside.Source as Source
 use Rattle.bt_intake.specs.declared.reader.LineReader.{LineReader}

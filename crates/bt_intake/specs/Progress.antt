@@ -1,5 +1,5 @@
 -- How far the bytes of some sources are cut.
-use Rattle.std.specs.Prelude.{◌≡◌, ℕ, ◌+◌, ◌<◌, Bool, false, List, [], ◌∷◌, length, take, drop, Option}
+use Rattle.std.specs.Prelude.{◌≡◌, ℕ, ◌+◌, ◌<◌, false, List, ◌∷◌, length, take, drop, Option}
 use Rattle.std.specs.List.{All}
 use Rattle.bt_intake.specs.Lines.{SourceBytes, byte_count, is_line_feed, batches}
 

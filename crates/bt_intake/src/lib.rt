@@ -5,3 +5,5 @@ pub mod intake;
 mod line;
 mod reader;
 mod reading;
+#[cfg(test)]
+mod tests;

@@ -28,11 +28,7 @@ fn without_carriage_return(bytes: &[u8]) -> &[u8]
 }
 
 /// Takes the line that begins with the bytes of `piece` and ends with `last`, and leaves `piece` empty.
-pub(crate) fn take_line(
-    alloc: Global,
-    piece: &mut Vec<u8>,
-    last: &[u8],
-) -> Result<Blob, NoMemory>
+pub(crate) fn take_line(alloc: Global, piece: &mut Vec<u8>, last: &[u8]) -> Result<Blob, NoMemory>
     ensures line { IfOk result (λ line. line ≡ strip_last 13 (piece.old.items ++ last.now)) }
     ensures emptied { IfOk result (λ _. piece.new.items ≡ []) }
     ensures err { OnErr result (piece.new.items ≡ piece.old.items) }

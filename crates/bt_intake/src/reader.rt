@@ -151,7 +151,10 @@ impl<S: Readable> LineReader<S> {
         ensures same { self.new ≡ record self.old { piece = self.new.piece; from = self.new.from } }
         ensures emptied { OnOk result (pending self.new ≡ []) }
     {
-        match self.piece.extend_from_slice(&self.buffer[self.from..self.to]) {
+        match self
+            .piece
+            .extend_from_slice(&self.buffer[self.from..self.to])
+        {
             Ok(()) => {}
             Err(_) => return Err(NoMemory),
         }

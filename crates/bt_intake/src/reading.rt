@@ -55,7 +55,12 @@ fn read_at<S: Readable>(sources: &mut Sources<S>, at: usize, buffer: &mut [u8]) 
 }
 
 // One read of the source at place `at` into the first `size` bytes of the buffer.
-fn read_into<S: Readable>(sources: &mut Sources<S>, at: usize, buffer: &mut [u8], size: usize) -> Read
+fn read_into<S: Readable>(
+    sources: &mut Sources<S>,
+    at: usize,
+    buffer: &mut [u8],
+    size: usize,
+) -> Read
     requires here { at < length sources.old.list }
     requires room { 0 < size }
     requires fits { size ≤ length buffer.old }

@@ -1,4 +1,4 @@
-use Rattle.std.proofs.Common.{◌≡◌, ℕ, length, drop, ◌∙◌}
+use Rattle.std.proofs.Common.{◌≡◌, length, drop, ◌∙◌}
 use Rattle.std.proofs.lemmas.List.{take_at}
 use Rattle.bt_intake.proofs.reading.read_front.Goals as goal
 

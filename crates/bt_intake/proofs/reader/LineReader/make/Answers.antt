@@ -1,4 +1,4 @@
-use Rattle.std.proofs.Common.{◌≡◌, ◌++◌, [], length, refl, sym, ap, subst, arith}
+use Rattle.std.proofs.Common.{◌≡◌, ◌++◌, [], length, sym, ap, subst, arith}
 use Rattle.bt_intake.specs.Progress.{HasNoFeed, Follows}
 use Rattle.bt_intake.specs.Reader.{rest}
 use Rattle.bt_intake.specs.Sources.{told}
@@ -23,5 +23,5 @@ returns-clause-stands g c =
       counted = λ q. taken_count-start g.S.Readable.shown ns (c.requires.untaken q);
       in_list = λ q. omega arith;
       follows = λ q. subst (λ u. Follows (told g.S.Readable.shown ns) 0 0 u (rest g.S.Readable.shown u ns)) (sym empty)
-        (subst (Follows (told g.S.Readable.shown ns) 0 0 []) (sym (rest-start g.S.Readable.shown ns (c.requires.untaken q))) (follows-start (told g.S.Readable.shown ns)));
+          (subst (Follows (told g.S.Readable.shown ns) 0 0 []) (sym (rest-start g.S.Readable.shown ns (c.requires.untaken q))) (follows-start (told g.S.Readable.shown ns)));
     }

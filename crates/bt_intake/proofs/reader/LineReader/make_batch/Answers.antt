@@ -1,4 +1,4 @@
-use Rattle.std.proofs.Common.{rules, ◌≡◌, ℕ, ◌+◌, ◌-◌, ◌++◌, length, take, drop, refl, sym, ap, ◌∙◌}
+use Rattle.std.proofs.Common.{rules, ◌≡◌, ◌+◌, ◌-◌, ◌++◌, length, take, drop, refl, sym, ap, ◌∙◌}
 use Rattle.std.specs.Io.BufRead.{strip_last}
 use Rattle.std.proofs.lemmas.Option.{slice_get_read}
 use Rattle.bt_intake.specs.Reader.{pending}
@@ -11,13 +11,13 @@ pub returns-clause-ok : goal.returns-clause-ok
 returns-clause-ok g c =
     let s = c.args.self.now in
     let last : take (s.from + c.args.n - s.from) (drop s.from s.buffer.items) ≡ take c.args.n (pending s) =
-      front_of_pending s.buffer.items s.from s.to c.args.n c.requires.stands.ordered c.requires.stands.inside c.requires.inside in
+    front_of_pending s.buffer.items s.from s.to c.args.n c.requires.stands.ordered c.requires.stands.inside c.requires.inside in
     let slice : take (s.from + c.args.n - s.from) (drop s.from c.deref.result.now) ≡ take c.args.n (pending s) =
-      ap (λ b. take (s.from + c.args.n - s.from) (drop s.from b)) c.deref.ensures.value ∙ last in
+    ap (λ b. take (s.from + c.args.n - s.from) (drop s.from b)) c.deref.ensures.value ∙ last in
     record {
       at_hand = c.index-as_slice-self.result;
       found = slice_get_read s.sources.list (length s.sources.list) s.at _ refl c.requires.here (search rules);
       made = one_item _ c.reserve.new.self.list _ (s.piece.items ++ take c.args.n (pending s)) c.in_ok-path.path _ c.push_reserved.ensures.list (c.reserve.ensures.list ∙ c.new-items.ensures.list)
-        (c.in_ok-bytes.ensures.line ∙ ap (λ l. strip_last 13 (s.piece.items ++ l)) slice)
-        (c.in_ok-path.ensures ∙ ap (λ n. n.path) (sym c.index-as_slice-self.is));
+          (c.in_ok-bytes.ensures.line ∙ ap (λ l. strip_last 13 (s.piece.items ++ l)) slice)
+          (c.in_ok-path.ensures ∙ ap (λ n. n.path) (sym c.index-as_slice-self.is));
     }

@@ -1,4 +1,4 @@
-use Rattle.std.proofs.Common.{◌≡◌, refl, ◌∙◌}
+use Rattle.std.proofs.Common.{refl, ◌∙◌}
 use Rattle.bt_intake.proofs.Turns.{goes-still, goes-then, answers-then}
 use Rattle.bt_intake.proofs.reader.LineReader.next.Goals as goal
 

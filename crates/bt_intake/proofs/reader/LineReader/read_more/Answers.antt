@@ -1,5 +1,5 @@
-use Rattle.std.proofs.Common.{rules, ◌≡◌, ℕ, ◌+◌, ◌-◌, ◌<◌, ◌≤◌, [], length, take, drop, IsTrue, refl, sym, ap, subst, arith}
-use Rattle.bt_intake.specs.Sources.{all_tell, OneRose}
+use Rattle.std.proofs.Common.{length, refl, sym, ap, subst, arith}
+use Rattle.bt_intake.specs.Sources.{OneRose}
 use Rattle.bt_intake.proofs.Steps.{read-kept, stands-quiet, stands-more, no_bytes, read_found, read_tells}
 use Rattle.bt_intake.proofs.SourceLists.{rose-slice_set}
 use Rattle.bt_intake.proofs.reader.LineReader.read_more.Goals as goal
@@ -12,9 +12,9 @@ returns-in-Count-clause-stands g c =
     let fits = h.reads.fits in
     let size = c.min-size.ensures in
     stands-more g.S.Readable.shown s c.requires.stands c.requires.empty _ t _ _ h c.read_front.ensures.len c.in-Count.n
-      (omega (arith, fits.1, size, c.requires.room)) fits.0 fits.1 (omega (arith, size, c.requires.stands.size)) refl
-      (λ q. let k = h.reads.takes (read_tells g.S.Readable.shown s c.requires.stands c.requires.empty _ t _ _ h c.read_front.ensures.len q) in (k.0, k.2))
-      c.requires.here
+    (omega (arith, fits.1, size, c.requires.room)) fits.0 fits.1 (omega (arith, size, c.requires.stands.size)) refl
+    (λ q. let k = h.reads.takes (read_tells g.S.Readable.shown s c.requires.stands c.requires.empty _ t _ _ h c.read_front.ensures.len q) in (k.0, k.2))
+    c.requires.here
 
 pub returns-in-Count-clause-kept : goal.returns-in-Count-clause-kept
 returns-in-Count-clause-kept g c =
@@ -39,12 +39,14 @@ pub returns-in-End-clause-reads : goal.returns-in-End-clause-reads
 returns-in-End-clause-reads g c =
     let s = c.args.self.now in
     let t = record s { sources = c.read_front.new.sources; buffer = c.read_front.new.buffer } in
-    let h = c.in-End.ensures.reads in
-    (refl, no_bytes g.S.Readable.shown s c.requires.stands c.requires.empty c.read_front.new.buffer.items c.read_front.ensures.len,
+    let h = c.in-End.ensures.reads in (
+      refl,
+      no_bytes g.S.Readable.shown s c.requires.stands c.requires.empty c.read_front.new.buffer.items c.read_front.ensures.len,
       λ q.
-        let k = h.reads.takes (read_tells g.S.Readable.shown s c.requires.stands c.requires.empty _ t _ _ h c.read_front.ensures.len q) in
-        let b = h.reads.kept.same (read_tells g.S.Readable.shown s c.requires.stands c.requires.empty _ t _ _ h c.read_front.ensures.len q) in
-        record { at_hand = h.new; found = read_found g.S.Readable.shown s c.requires.stands c.requires.empty _ t _ _ h c.read_front.ensures.len; none_left = omega (arith, k.0, k.1, ap length b) })
+          let k = h.reads.takes (read_tells g.S.Readable.shown s c.requires.stands c.requires.empty _ t _ _ h c.read_front.ensures.len q) in
+          let b = h.reads.kept.same (read_tells g.S.Readable.shown s c.requires.stands c.requires.empty _ t _ _ h c.read_front.ensures.len q) in
+          record { at_hand = h.new; found = read_found g.S.Readable.shown s c.requires.stands c.requires.empty _ t _ _ h c.read_front.ensures.len; none_left = omega (arith, k.0, k.1, ap length b) },
+    )
 
 pub returns-in-Failed-clause-stands : goal.returns-in-Failed-clause-stands
 returns-in-Failed-clause-stands g c =

@@ -1,4 +1,4 @@
-use Rattle.std.proofs.Common.{◌≡◌, length, refl, ap, ◌∙◌, arith}
+use Rattle.std.proofs.Common.{length, ap, ◌∙◌, arith}
 use Rattle.bt_intake.proofs.SourceLists.{kept-length}
 use Rattle.bt_intake.proofs.Turns.{goes-read, says-failed}
 use Rattle.bt_intake.proofs.reader.LineReader.read_step.Goals as goal
@@ -22,7 +22,18 @@ returns-in-Failed-clause-steps g c =
 pub returns-then-is_empty-clause-steps : goal.returns-then-is_empty-clause-steps
 returns-then-is_empty-clause-steps g c =
     let e = c.in-End.ensures in
-    let p = c.pass_source.ensures.same in
-    (ap (λ u. u.given) p ∙ e.same.1,
-      omega (arith, ap (λ u. u.at) p, ap (λ u. u.bound) p, ap (λ u. u.taken) p, ap (λ u. length u.sources.list) p, e.same.0, e.same.2, e.reads.0, c.requires.here,
-        kept-length g.S.Readable.shown c.args.self.now.sources.list c.read_more.new.self.sources.list e.kept))
+    let p = c.pass_source.ensures.same in (
+      ap (λ u. u.given) p ∙ e.same.1,
+      omega (
+        arith,
+        ap (λ u. u.at) p,
+        ap (λ u. u.bound) p,
+        ap (λ u. u.taken) p,
+        ap (λ u. length u.sources.list) p,
+        e.same.0,
+        e.same.2,
+        e.reads.0,
+        c.requires.here,
+        kept-length g.S.Readable.shown c.args.self.now.sources.list c.read_more.new.self.sources.list e.kept,
+      ),
+    )

@@ -1,4 +1,4 @@
-use Rattle.std.proofs.Common.{◌≡◌, sym, ap, ◌∙◌, arith}
+use Rattle.std.proofs.Common.{ap, ◌∙◌, arith}
 use Rattle.bt_intake.proofs.Turns.{goes-still, says-end, says-bound}
 use Rattle.bt_intake.proofs.reader.LineReader.step.Goals as goal
 
@@ -29,7 +29,8 @@ returns-then-self-len-clause-goes g c =
 
 pub returns-then-self-len-clause-steps : goal.returns-then-self-len-clause-steps
 returns-then-self-len-clause-steps g c =
-    let e = c.keep_rest.ensures.same in
-    (ap (λ u. u.given) e,
+    let e = c.keep_rest.ensures.same in (
+      ap (λ u. u.given) e,
       says-end g.S.Readable.shown c.keep_rest.new.self c.keep_rest.ensures.stands c.in-Ok.ensures.emptied (c.if-self-len.true ∙ c.len.ensures)
-        (omega (arith, c.if-self.false, c.keep_rest.ensures.stands.within_bound)))
+          (omega (arith, c.if-self.false, c.keep_rest.ensures.stands.within_bound)),
+    )
