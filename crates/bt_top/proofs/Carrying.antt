@@ -1,0 +1,32 @@
+-- Steps of a run.
+use Rattle.std.proofs.Common.{◌≡◌, ℕ, List, Some, IsTrue, slice_get, ap, ◌∙◌, sym}
+use Rattle.bt_ports.specs.declared.outside.Intake as Intake
+use Rattle.bt_ports.specs.declared.outside.Sink as Sink
+use Rattle.bt_ports.specs.declared.outside.Answerer as Answerer
+use Rattle.bt_ports.specs.declared.parts.Txn.{Txn}
+use Rattle.bt_desk.specs.DeskView.{DeskView}
+use Rattle.bt_desk.specs.Calls.{SameRun, OnlyAdmits, Delivers}
+use Rattle.bt_desk.specs.History.{Settled}
+use Rattle.bt_top.specs.Carries.{SamePlaces}
+
+module _ {I K A C : Type 0} where
+  pub same_run-then : (g : Intake.Ghosts I) (d e f : DeskView I K A C) → SameRun g d e → SameRun g e f → SameRun g d f
+  same_run-then g d e f p q = record {
+    told = λ t. p.told (q.told t);
+    openings = q.openings ∙ p.openings;
+    bound = q.bound ∙ p.bound;
+    inputs = λ t. q.inputs t ∙ p.inputs (q.told t);
+    batches = λ t. q.batches t ∙ p.batches (q.told t);
+    before = λ t. q.before t ∙ p.before (q.told t);
+  }
+
+  -- an admission and a delivery leave the places
+  pub same_places-then : (gi : Intake.Ghosts I) (gk : Sink.Ghosts K) (ga : Answerer.Ghosts A) (t : Txn) (d e f h : DeskView I K A C) (txn : List Settled)
+      → SamePlaces gk ga d e → OnlyAdmits gi e f → Delivers gk ga t f h txn → SamePlaces gk ga d h
+  same_places-then gi gk ga t d e f h txn p admits delivers = record {
+    sink = λ k is.
+        let put = delivers.settles.puts k is in
+        let was = p.sink put.0 (sym (ap (λ ks. slice_get ks.list 0) admits.sinks) ∙ put.1) in
+        (was.0, was.1, put.2.placed ∙ was.2);
+    answerer = delivers.settles.answers.placed ∙ ap ga.place admits.answerer ∙ p.answerer;
+  }

@@ -1,0 +1,4 @@
+pub mod Begin
+pub mod Carried
+pub mod Carrying
+pub mod Went

@@ -1,0 +1,11 @@
+pub mod Begin
+pub mod Carries
+pub mod Form
+pub mod Input
+pub mod Kept
+pub mod Lines
+pub mod Openings
+pub mod Run
+pub mod Statuses
+pub mod Words
+pub mod Went
