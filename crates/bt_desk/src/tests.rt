@@ -78,6 +78,8 @@ impl Intake for Script {
 
     ghost inputs = { λ _. [] };
 
+    ghost bound = { λ _. 0 };
+
     fn next(&mut self) -> Next {
         if let Some(items) = self.batches.pop() {
             let n = items.len() as u64;
