@@ -11,11 +11,10 @@ pub mod origins;
 pub mod outside;
 pub mod parts;
 pub mod sequence;
-pub mod text;
-pub mod world;
-
 #[cfg(test)]
 mod tests;
+pub mod text;
+pub mod world;
 
 /// Memory was wanted and there was none.
 ///

@@ -9,14 +9,11 @@ use crate::memory::source::MemSource;
 use crate::memory::world::{Failing, File, MemWorld, SinkCall};
 use crate::origins::Origins;
 use crate::outside::{Answerer, Clock, Printer, Sink, Source};
-use crate::parts::{
-    Calls, Cause, Ends, FileRead, Named, Opened, Read, Record, Records, Verdict, What,
-};
+use crate::parts::{Cause, FileRead, Opened, Read, Records, Verdict, What};
 use crate::sequence::Sequence;
 use crate::text::Text;
 use crate::world::World;
 use std::alloc::Global;
-use std::process::Abort;
 use std::test::Fail;
 
 // The list of these members.
@@ -105,7 +102,12 @@ fn a_sink_keeps_what_it_accepts_and_what_it_refuses(rt: HostRuntime) -> Result<(
     assert!(rt; sink.put(3, 1, 2, 4, b"c").is_ok());
     assert_eq!(rt; sink.accepted().len(), 2);
     assert_eq!(rt; bytes_at(sink.accepted(), 1), b"c".as_slice());
-    assert_eq!(rt; sink.accepted().get(1).map(|r| (r.txn, r.part, r.leaf, r.batch)), Some((3, 1, 2, 4)));
+    assert_eq!(rt;
+        sink.accepted()
+            .get(1)
+            .map(|r| (r.txn, r.part, r.leaf, r.batch)),
+        Some((3, 1, 2, 4))
+    );
     assert_eq!(rt; sink.refused().len(), 1);
     assert_eq!(rt; bytes_at(sink.refused(), 0), b"b".as_slice());
     Ok(())
@@ -121,7 +123,10 @@ fn an_answerer_keeps_each_call_with_its_item_and_outcome(rt: HostRuntime) -> Res
     assert_eq!(rt; (first.number, first.item, first.failed), (7, 1, true));
     assert_eq!(rt; first.verdict, rejected);
     assert_eq!(rt; first.why.as_slice(), b"why".as_slice());
-    assert_eq!(rt; answerer.answers().get(1).map(|a| (a.item, a.failed)), Some((2, false)));
+    assert_eq!(rt;
+        answerer.answers().get(1).map(|a| (a.item, a.failed)),
+        Some((2, false))
+    );
     Ok(())
 }
 
@@ -194,75 +199,34 @@ fn a_world_reads_its_files_within_the_limit(rt: HostRuntime) -> Result<(), Fail>
     assert!(rt; matches!(world.read_file("a", 4), FileRead::Failed));
     assert!(rt; matches!(world.read_file("none", 4), FileRead::Failed));
     assert_eq!(rt; world.calls().len(), 4);
-    assert_eq!(rt; world.calls().get(2).map(|c| (c.what, c.failed)), Some((What::File, true)));
+    assert_eq!(rt;
+        world.calls().get(2).map(|c| (c.what, c.failed)),
+        Some((What::File, true))
+    );
     Ok(())
 }
 
 #[test]
 fn a_world_gives_its_standard_input_once(rt: HostRuntime) -> Result<(), Fail> {
     let mut world = world(rt.alloc())?;
-    assert_eq!(rt; first_read(world.open_source("stdin")), Some((Read::Count(5), b'i')));
+    assert_eq!(rt;
+        first_read(world.open_source("stdin")),
+        Some((Read::Count(5), b'i'))
+    );
     assert!(rt; matches!(world.open_source("stdin"), Opened::Failed));
-    assert_eq!(rt; first_read(world.open_source("stdin")), Some((Read::End, 0)));
-    assert_eq!(rt; first_read(world.open_source("a")), Some((Read::Count(4), b'f')));
+    assert_eq!(rt;
+        first_read(world.open_source("stdin")),
+        Some((Read::End, 0))
+    );
+    assert_eq!(rt;
+        first_read(world.open_source("a")),
+        Some((Read::Count(4), b'f'))
+    );
     assert!(rt; matches!(world.open_source("none"), Opened::Failed));
-    assert_eq!(rt; (world.take_clock().now(), world.take_clock().now()), (9, 0));
-    Ok(())
-}
-
-// The ends of a run over the world's standard input, its sink `file:b` and its answers.
-fn ends(
-    rt: &impl Abort,
-    alloc: Global,
-    world: &mut MemWorld,
-) -> Result<Option<Ends<MemSource, MemSink, MemAnswerer, MemClock>>, NoMemory> {
-    let Opened::Got(mut sink) = world.open_sink("file:b", b"\n") else {
-        return Ok(None);
-    };
-    assert!(rt; sink.put(1, 0, 0, 0, b"a").is_err());
-    assert!(rt; matches!(world.open_answers(Some("c")), Opened::Failed));
-    let Opened::Got(mut answerer) = world.open_answers(None) else {
-        return Ok(None);
-    };
-    assert!(rt; answerer.answer(1, 0, &Verdict::Ack, b"").is_err());
-    let Opened::Got(source) = world.open_source("stdin") else {
-        return Ok(None);
-    };
-    let mut sources = Sequence::new(alloc);
-    sources.push(Named { path: None, source }).map_err(|e| e.0)?;
-    let mut sinks = Sequence::new(alloc);
-    sinks.push(sink).map_err(|e| e.0)?;
-    let clock = world.take_clock();
-    Ok(Some(Ends {
-        sources,
-        sinks,
-        answerer,
-        clock,
-    }))
-}
-
-#[test]
-fn a_world_shows_what_was_opened_and_kept(rt: HostRuntime) -> Result<(), Fail> {
-    let mut world = world(rt.alloc())?;
-    let ends = ends(&rt, rt.alloc(), &mut world)?.ok_or("not opened")?;
-    assert!(rt; world.kept().is_none());
-    world.keep(ends);
-    let kept = world.kept().ok_or("not kept")?;
-    assert_eq!(rt; kept.sinks.get(0).map(|k| k.refused().len()), Some(1));
-    let asked = world.calls().get(0).ok_or("no call")?;
-    assert_eq!(rt; asked.name.as_ref().map(|n| n.as_str()), Some("file:b"));
-    assert_eq!(rt; asked.end.as_ref().map(|e| e.as_slice()), Some(b"\n".as_slice()));
-    assert_eq!(rt; world.calls().get(1).map(|c| (c.what, c.failed)), Some((What::Answers, true)));
-    world.keep_input(Sequence::new(rt.alloc()));
-    assert_eq!(rt; world.kept_input().map(|s| s.len()), Some(0));
-    assert!(rt; world.kept_load().is_none());
-    world.keep_load(Ends {
-        sources: Sequence::new(rt.alloc()),
-        sinks: Sequence::new(rt.alloc()),
-        answerer: MemAnswerer::make(rt.alloc(), Sequence::new(rt.alloc())),
-        clock: MemClock::make(list(rt.alloc(), &[4])?),
-    });
-    assert_eq!(rt; world.kept_load().map(|e| e.clock.readings().len()), Some(1));
+    assert_eq!(rt;
+        (world.take_clock().now(), world.take_clock().now()),
+        (9, 0)
+    );
     Ok(())
 }
 
@@ -275,6 +239,9 @@ fn a_world_keeps_what_is_printed_and_said(rt: HostRuntime) -> Result<(), Fail> {
     world.err(b"two");
     assert_eq!(rt; world.bytes().as_slice(), b"ab".as_slice());
     assert_eq!(rt; world.lines().len(), 2);
-    assert_eq!(rt; world.lines().get(1).map(|l| l.as_slice()), Some(b"two".as_slice()));
+    assert_eq!(rt;
+        world.lines().get(1).map(|l| l.as_slice()),
+        Some(b"two".as_slice())
+    );
     Ok(())
 }
