@@ -1,5 +1,5 @@
 -- A desk stands after an admission.
-use Rattle.std.proofs.Common.{◌≡◌, inr, ℕ, zero, suc, ◌+◌, ◌-◌, ◌^◌, ◌<◌, ◌≤◌, List, [], ◌∷◌, length, take, drop, refl, ap, ◌∙◌, sym, subst, arith, IsTrue, Option, Some, None, IsSome, slice_get, length-drop, zero-add}
+use Rattle.std.proofs.Common.{◌≡◌, ℕ, zero, suc, ◌+◌, ◌-◌, ◌^◌, ◌<◌, ◌≤◌, List, [], ◌∷◌, length, take, drop, refl, ap, ◌∙◌, sym, subst, arith, IsTrue, Some, None, IsSome, slice_get, length-drop, zero-add}
 use Rattle.bt_ports.specs.Intake.{stop_of, NextFaults, NextLowers, NextGives}
 use Rattle.bt_ports.specs.Contents.{Contents}
 use Rattle.bt_ports.specs.declared.parts.Item.{Item}
@@ -11,10 +11,9 @@ use Rattle.bt_ports.specs.declared.outside.Answerer as Answerer
 use Rattle.bt_desk.specs.declared.report.Ending.{Ending}
 use Rattle.bt_desk.specs.declared.report.Ending.TheVariants as ending
 use Rattle.bt_desk.specs.declared.report.Report.{Report}
-use Rattle.bt_desk.specs.declared.report.Out.{Out}
 use Rattle.bt_desk.specs.History.{Settled}
 use Rattle.bt_desk.specs.DeskView.{DeskView}
-use Rattle.bt_desk.specs.Stands.{StandsWith, ending_of, TakesWhole, FaultCounted, out_items}
+use Rattle.bt_desk.specs.Stands.{StandsWith, ending_of, TakesWhole, FaultCounted}
 
 slice_get-drop : {X : Type 0} (m : ℕ) (xs : List X) (i : ℕ) → slice_get (drop m xs) i ≡ slice_get xs (m + i)
 slice_get-drop zero [] i = refl

@@ -1,6 +1,7 @@
 pub mod Admitting
 pub mod Beginning
 pub mod Clean
+pub mod Counting
 pub mod Delivering
 pub mod Finishing
 pub mod Histories

@@ -1,7 +1,9 @@
 -- What a finished run says of the lists that its sink and its answerer tell.
-use Rattle.std.specs.Prelude.{◌≡◌, ℕ, ◌<◌, ◌⊎◌, List, [], take, IsTrue, Some, slice_get, AllPairs}
+use Rattle.std.specs.Prelude.{◌≡◌, ℕ, ◌<◌, ◌⊎◌, List, [], take, length, count_by, not, Bool, true, false, IsTrue, Some, slice_get, AllPairs}
 use Rattle.bt_ports.specs.declared.parts.Record.{Record}
 use Rattle.bt_ports.specs.declared.parts.AnswerCall.{AnswerCall}
+use Rattle.bt_ports.specs.declared.parts.Verdict.{Verdict}
+use Rattle.bt_ports.specs.declared.parts.Verdict.TheVariants.{Ack, Refused}
 use Rattle.bt_ports.specs.declared.outside.Sink as Sink
 use Rattle.bt_ports.specs.declared.outside.Intake as Intake
 use Rattle.bt_ports.specs.declared.outside.Answerer as Answerer
@@ -31,6 +33,27 @@ pub record Rises {I K A C : Type 0} (gk : Sink.Ghosts K) (ga : Answerer.Ghosts A
   pub accepted : (k : K) → slice_get d.sinks.list 0 ≡ Some k → IsTrue (gk.tells k) → RecordsRise (gk.accepted k)
   pub refused : (k : K) → slice_get d.sinks.list 0 ≡ Some k → IsTrue (gk.tells k) → RecordsRise (gk.refused k)
   pub answered : IsTrue (ga.tells d.answerer) → CallsRise (ga.calls d.answerer)
+
+abbrev pub is_ack : Verdict → Bool
+is_ack Ack = true
+is_ack (Refused cause) = false
+
+abbrev pub acknowledges : AnswerCall → Bool
+acknowledges call = is_ack call.verdict
+
+abbrev pub refuses : AnswerCall → Bool
+refuses call = not (is_ack call.verdict)
+
+abbrev pub has_failed : AnswerCall → Bool
+has_failed call = call.failed
+
+-- the report's numbers are what the lists say
+pub record Counts {I K A C : Type 0} (gk : Sink.Ghosts K) (ga : Answerer.Ghosts A) (d : DeskView I K A C) : Type 0 where
+  pub accepted : (k : K) → slice_get d.sinks.list 0 ≡ Some k → IsTrue (gk.tells k) → d.report.acked ≡ length (gk.accepted k)
+  pub refused : (k : K) → slice_get d.sinks.list 0 ≡ Some k → IsTrue (gk.tells k) → d.report.refused ≡ length (gk.refused k)
+  pub acknowledged : IsTrue (ga.tells d.answerer) → d.report.acked ≡ count_by acknowledges (ga.calls d.answerer)
+  pub others : IsTrue (ga.tells d.answerer) → d.report.refused ≡ count_by refuses (ga.calls d.answerer)
+  pub failed : IsTrue (ga.tells d.answerer) → d.report.answer_faults ≡ count_by has_failed (ga.calls d.answerer)
 
 -- where the sink counted no fault, each item that was taken has its accepted record, in order, and none was refused.
 -- Where the answerer counted none either, each has one acknowledgement, in order, and there is no other call

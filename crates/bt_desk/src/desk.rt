@@ -73,7 +73,7 @@ fn answer_of(ending: Ending) -> Admit
 impl<I: Intake, K: Sink, A: Answerer, C: Clock> Desk<I, K, A, C> {
     ghost use Rattle.bt_desk.specs.Stands.{Stands};
     ghost use Rattle.bt_desk.specs.History.{Settled};
-    ghost use Rattle.bt_desk.specs.Outcome.{Rises, IsClean};
+    ghost use Rattle.bt_desk.specs.Outcome.{Counts, Rises, IsClean};
     ghost use Rattle.bt_desk.specs.Calls.{IsUnwritten, IsUnanswered, Begins, SameRun, IsOut, Admits, OnlyAdmits, Delivers};
 
     /// A desk over these parts, on which nothing was taken. It reserves the room for the transaction that is out.
@@ -185,6 +185,7 @@ impl<I: Intake, K: Sink, A: Answerer, C: Clock> Desk<I, K, A, C> {
     /// What the run reports so far.
     pub fn report(&self) -> Report
         ensures report { result ≡ self.now.report }
+        ensures counts { Counts ⟦<K as Sink>⟧ ⟦<A as Answerer>⟧ self.now }
         ensures stands { Stands ⟦<I as Intake>⟧ ⟦<K as Sink>⟧ ⟦<A as Answerer>⟧ self.now }
     {
         self.report
@@ -202,6 +203,7 @@ impl<I: Intake, K: Sink, A: Answerer, C: Clock> Desk<I, K, A, C> {
         ensures clock { result.clock ≡ self.clock }
         ensures stands { Stands ⟦<I as Intake>⟧ ⟦<K as Sink>⟧ ⟦<A as Answerer>⟧ self }
         ensures idle { self.out ≡ [] }
+        ensures counts { Counts ⟦<K as Sink>⟧ ⟦<A as Answerer>⟧ self }
         ensures rises { Rises ⟦<K as Sink>⟧ ⟦<A as Answerer>⟧ self }
         ensures clean { IsClean ⟦<I as Intake>⟧ ⟦<K as Sink>⟧ ⟦<A as Answerer>⟧ self }
     {

@@ -1,4 +1,4 @@
-use Rattle.bt_desk.proofs.Finishing.{stands-rises, stands-clean, idle-done}
+use Rattle.bt_desk.proofs.Finishing.{stands-counts, stands-rises, stands-clean, idle-done}
 use Rattle.bt_desk.proofs.desk.Desk.into_parts.Goals as goal
 
 pub returns-clause-rises : goal.returns-clause-rises
@@ -10,3 +10,6 @@ returns-clause-clean g c =
     let s = c.self.invariant.stands.1 in
     rw (← c.self.view_is)
     (stands-clean g.I.Intake g.K.Sink g.A.Answerer _ _ s (idle-done g.I.Intake g.K.Sink g.A.Answerer _ _ s done))
+
+pub returns-clause-counts : goal.returns-clause-counts
+returns-clause-counts g c = rw (← c.self.view_is) (stands-counts g.I.Intake g.K.Sink g.A.Answerer _ _ c.self.invariant.stands.1)
