@@ -13,7 +13,10 @@ use bt_ports::parts::{Next, Sources};
 use std::alloc::Global;
 use std::marker::Model;
 
-/// The lines of some sources as an intake: each line is a batch of one item.
+/// The lines of some sources as an intake: each line is a batch of one item, which has its source's path.
+///
+/// A line ends with a line feed, as POSIX has it, or with its source, where bytes stand behind the last line feed. One
+/// carriage return at its end is dropped. No line crosses two sources, and none has a limit of its own.
 #[derive(Drop)]
 pub struct LineIntake<S: Source> {
     reader: LineReader<S>,
@@ -47,7 +50,9 @@ fn stop(answer: &Next) -> Option<Next>
 }
 
 impl<S: Source> LineIntake<S> {
-    /// An intake of the lines of `sources`, which takes `bound` bytes of them at most.
+    /// An intake of the lines of `sources`, which takes `bound` bytes of them at most, all together.
+    ///
+    /// It reads nothing yet. Where there is no memory the sources come back as they were.
     pub fn make(
         alloc: Global,
         sources: Sources<S>,
@@ -67,7 +72,7 @@ impl<S: Source> LineIntake<S> {
         }
     }
 
-    /// The sources as they stand.
+    /// The sources as they stand. This takes no memory.
     pub fn into_sources(self) -> Sources<S>
         ensures sources { result ≡ self.sources }
         ensures standing { Standing ⟦<S as Source>⟧ self }
@@ -98,7 +103,8 @@ impl<S: Source> Intake for LineIntake<S> {
 
     /// Gives the next line as a batch of one item, or says why there is none.
     ///
-    /// A source is read only while no line that its line feed ends waits among the bytes taken.
+    /// A source is read only while no line that its line feed ends waits among the bytes taken. A failed read ends the
+    /// intake, and bytes behind the last line feed are dropped then. So does want of memory, wherever it comes.
     fn next(&mut self) -> Next
         requires { self.old.stopped ≡ None }
 
