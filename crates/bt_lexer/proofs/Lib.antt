@@ -1,0 +1,4 @@
+pub mod KindLemmas
+pub mod OneReading
+pub mod SomeReading
+pub mod PlaceLemmas

@@ -1,0 +1,6 @@
+pub mod Bytes
+pub mod Strings
+pub mod Kinds
+pub mod Tokens
+pub mod Lines
+pub mod Places

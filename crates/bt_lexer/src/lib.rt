@@ -1,0 +1,23 @@
+//! The tokens of a mapping.
+#![tactic(auto)]
+
+ghost use Rattle.std.specs.Prelude.{◌≡◌, ◌⊎◌, ℕ, List};
+ghost use Rattle.bt_lexer.specs.declared.token.Token.{Token};
+ghost use Rattle.bt_lexer.specs.declared.token.LexFault.{LexFault};
+ghost use Rattle.bt_lexer.specs.Lines.{HasTokens, HasFault};
+
+pub mod places;
+pub mod token;
+
+pub use places::place;
+pub use token::{Kind, LexFault, Place, Token, Tokens};
+
+/// A law: a text has one list of tokens or one first fault, never both and never neither.
+/// The call does nothing.
+pub fn one_reading()
+    ensures one_list { (s : List ℕ) (ts us : List Token) → HasTokens s ts → HasTokens s us → ts ≡ us }
+    ensures one_fault { (s : List ℕ) (f g : LexFault) → HasFault s f → HasFault s g → f ≡ g }
+    ensures never_both { (s : List ℕ) (ts : List Token) (f : LexFault) → HasTokens s ts → HasFault s f → ⊥ }
+    ensures never_neither { (s : List ℕ) → ((ts : List Token) × HasTokens s ts) ⊎ ((f : LexFault) × HasFault s f) }
+{
+}
