@@ -2,3 +2,5 @@ pub mod KindLemmas
 pub mod OneReading
 pub mod SomeReading
 pub mod PlaceLemmas
+pub mod PartLemmas
+pub mod StringLemmas

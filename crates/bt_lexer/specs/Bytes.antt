@@ -5,6 +5,9 @@ use Rattle.std.specs.Prelude.{ℕ, Bool, true, false, ◌&&◌, ◌||◌, ◌==�
 abbrev pub quote : ℕ
 quote = 34
 
+abbrev pub is_quote : ℕ → Bool
+is_quote c = c == quote
+
 -- `\`
 abbrev pub backslash : ℕ
 backslash = 92

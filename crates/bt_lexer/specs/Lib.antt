@@ -4,3 +4,4 @@ pub mod Kinds
 pub mod Tokens
 pub mod Lines
 pub mod Places
+pub mod Fronts

@@ -6,7 +6,10 @@ ghost use Rattle.bt_lexer.specs.declared.token.Token.{Token};
 ghost use Rattle.bt_lexer.specs.declared.token.LexFault.{LexFault};
 ghost use Rattle.bt_lexer.specs.Lines.{HasTokens, HasFault};
 
+mod bytes;
+mod marks;
 pub mod places;
+mod strings;
 pub mod token;
 
 pub use places::place;

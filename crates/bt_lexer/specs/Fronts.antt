@@ -1,0 +1,25 @@
+-- What is found at the front of a text.
+use Rattle.std.specs.Prelude.{◌≡◌, ℕ, zero, suc, ◌<◌, ◌≤◌, Bool, true, false, List, ◌++◌, length, take, drop, Option, Some, None}
+use Rattle.bt_lexer.specs.declared.token.Kind.{Kind}
+use Rattle.bt_lexer.specs.Tokens.{IsToken, NoToken, IsGap, NoGap}
+
+-- a front of this length that passes, or that no front passes
+abbrev pub FindsFront : (List ℕ → Bool) → List ℕ → Option ℕ → Type 0
+FindsFront passes s None = (u rest : List ℕ) → s ≡ u ++ rest → passes u ≡ false
+FindsFront passes s (Some n) = (n ≤ length s) × (passes (take n s) ≡ true)
+
+-- the first n bytes are a token of kind k
+pub record BeginsToken (k : Kind) (n : ℕ) (s : List ℕ) : Type 0 where
+  pub some : 0 < n
+  pub within : n ≤ length s
+  pub is : IsToken k (take n s) (drop n s)
+
+-- a token, by its kind and its length, or that none begins here
+abbrev pub FindsToken : List ℕ → Option (Kind × ℕ) → Type 0
+FindsToken s None = NoToken s
+FindsToken s (Some x) = BeginsToken x.0 x.1 s
+
+-- a gap of this length, or for 0 that none begins here
+abbrev pub FindsGap : List ℕ → ℕ → Type 0
+FindsGap s zero = NoGap s
+FindsGap s (suc n) = (suc n ≤ length s) × IsGap (take (suc n) s) (drop (suc n) s)
