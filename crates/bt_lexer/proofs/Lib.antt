@@ -4,3 +4,4 @@ pub mod SomeReading
 pub mod PlaceLemmas
 pub mod PartLemmas
 pub mod StringLemmas
+pub mod FrontLemmas

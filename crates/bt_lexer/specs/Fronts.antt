@@ -1,6 +1,7 @@
 -- What is found at the front of a text.
-use Rattle.std.specs.Prelude.{◌≡◌, ℕ, zero, suc, ◌<◌, ◌≤◌, Bool, true, false, List, ◌++◌, length, take, drop, Option, Some, None}
+use Rattle.std.specs.Prelude.{◌≡◌, ℕ, zero, suc, ◌<◌, ◌≤◌, Bool, true, false, List, [], ◌∷◌, ◌++◌, length, take, drop, Option, Some, None}
 use Rattle.bt_lexer.specs.declared.token.Kind.{Kind}
+use Rattle.bt_lexer.specs.Kinds.{mark_in, marks}
 use Rattle.bt_lexer.specs.Tokens.{IsToken, NoToken, IsGap, NoGap}
 
 -- a front of this length that passes, or that no front passes
@@ -23,3 +24,8 @@ FindsToken s (Some x) = BeginsToken x.0 x.1 s
 abbrev pub FindsGap : List ℕ → ℕ → Type 0
 FindsGap s zero = NoGap s
 FindsGap s (suc n) = (suc n ≤ length s) × IsGap (take (suc n) s) (drop (suc n) s)
+
+-- the mark that the first two bytes are, if there are two
+abbrev pub pair_at : List ℕ → Option Kind
+pair_at (a ∷ b ∷ v) = mark_in marks (a ∷ b ∷ [])
+pair_at _ = None

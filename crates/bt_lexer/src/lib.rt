@@ -11,6 +11,7 @@ mod marks;
 pub mod places;
 mod strings;
 pub mod token;
+mod words;
 
 pub use places::place;
 pub use token::{Kind, LexFault, Place, Token, Tokens};
