@@ -5,3 +5,4 @@ pub mod PlaceLemmas
 pub mod PartLemmas
 pub mod StringLemmas
 pub mod FrontLemmas
+pub mod ReadLemmas

@@ -1,6 +1,7 @@
 -- What is found at the front of a text.
 use Rattle.std.specs.Prelude.{◌≡◌, ℕ, zero, suc, ◌<◌, ◌≤◌, Bool, true, false, List, [], ◌∷◌, ◌++◌, length, take, drop, Option, Some, None}
 use Rattle.bt_lexer.specs.declared.token.Kind.{Kind}
+use Rattle.bt_lexer.specs.declared.token.Token.{Token}
 use Rattle.bt_lexer.specs.Kinds.{mark_in, marks}
 use Rattle.bt_lexer.specs.Tokens.{IsToken, NoToken, IsGap, NoGap}
 
@@ -29,3 +30,9 @@ FindsGap s (suc n) = (suc n ≤ length s) × IsGap (take (suc n) s) (drop (suc n
 abbrev pub pair_at : List ℕ → Option Kind
 pair_at (a ∷ b ∷ v) = mark_in marks (a ∷ b ∷ [])
 pair_at _ = None
+
+-- a token stands at the place
+pub record IsNext (s : List ℕ) (at : ℕ) (t : Token) : Type 0 where
+  pub from : t.from ≡ at
+  pub some : at < t.to
+  pub within : t.to ≤ length s

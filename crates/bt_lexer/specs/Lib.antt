@@ -5,3 +5,4 @@ pub mod Tokens
 pub mod Lines
 pub mod Places
 pub mod Fronts
+pub mod Collected

@@ -7,13 +7,16 @@ ghost use Rattle.bt_lexer.specs.declared.token.LexFault.{LexFault};
 ghost use Rattle.bt_lexer.specs.Lines.{HasTokens, HasFault};
 
 mod bytes;
+mod lines;
 mod marks;
 pub mod places;
+pub mod reading;
 mod strings;
 pub mod token;
 mod words;
 
 pub use places::place;
+pub use reading::lex;
 pub use token::{Kind, LexFault, Place, Token, Tokens};
 
 /// A law: a text has one list of tokens or one first fault, never both and never neither.
