@@ -6,3 +6,4 @@ pub mod PartLemmas
 pub mod StringLemmas
 pub mod FrontLemmas
 pub mod ReadLemmas
+pub mod SpanLemmas

@@ -138,7 +138,7 @@ gap_is_some : (u rest : List ℕ) → IsGap u rest → 0 < length u
 gap_is_some _ _ (blank {rest} c h) = omega arith
 gap_is_some _ _ (comment {u} {rest} h ends) = omega arith
 
-token_is_some : (k : Kind) (u rest : List ℕ) → IsToken k u rest → 0 < length u
+pub token_is_some : (k : Kind) (u rest : List ℕ) → IsToken k u rest → 0 < length u
 token_is_some k [] rest w = let x : None ≡ some_kind k = sym kind-empty ∙ w.has in absurd (cc)
 token_is_some k (c ∷ u) rest w = omega arith
 

@@ -4,5 +4,6 @@ pub mod Kinds
 pub mod Tokens
 pub mod Lines
 pub mod Places
+pub mod Spans
 pub mod Fronts
 pub mod Collected

@@ -8,6 +8,7 @@ ghost use Rattle.bt_lexer.specs.Tokens.{Reads, NoGap, NoToken, before};
 ghost use Rattle.bt_lexer.specs.Bytes.{begins, is_quote};
 ghost use Rattle.bt_lexer.specs.Fronts.{IsNext};
 ghost use Rattle.bt_lexer.specs.Lines.{HasTokens, HasFault};
+ghost use Rattle.bt_lexer.specs.Spans.{IsFaultWithin};
 
 use crate::bytes::from_place;
 use crate::lines::{Behind, keep};
@@ -70,6 +71,7 @@ fn token_at(text: &[u8], at: usize, after_dot: bool) -> Result<Token, LexFault>
 pub fn lex(alloc: Global, text: &str) -> Result<Tokens, LexFault>
     ensures tokens { IfOk result (λ ts. HasTokens text.now ts.list) }
     ensures fault { IfErr result (λ f. f ≢ LexFault.NoMemory → HasFault text.now f) }
+    ensures place { IfErr result (λ f. IsFaultWithin text.now 0 f) }
 {
     let bytes = text.as_bytes();
     let mut found = Tokens::new(alloc);
