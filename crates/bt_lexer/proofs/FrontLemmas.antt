@@ -65,11 +65,14 @@ letter_name_byte c h = rw h refl
 
 name_at : (c : ℕ) (v : List ℕ) → is_letter c ≡ true → BeginsToken Name (suc (prefix_len is_name_byte v)) (c ∷ v)
 name_at c v h = let n = prefix_len is_name_byte v in record {
-    some = omega arith; within = (let l = prefix_within is_name_byte v in omega arith);
-    is = record {
-      has = kind-letter c (take n v) h ∙ (rw (prefix_all is_name_byte v) refl);
-      longest = λ d x w e. kind-letter c (take n v ++ d ∷ x) h ∙ (rw (past_prefix is_name_byte v d x w e) refl);
-      tripled = λ t. absurd (never_tripled c (take n v ++ drop n v) (letter_no_quote c h) t) } }
+  some = omega arith;
+  within = (let l = prefix_within is_name_byte v in omega arith);
+  is = record {
+    has = kind-letter c (take n v) h ∙ (rw (prefix_all is_name_byte v) refl);
+    longest = λ d x w e. kind-letter c (take n v ++ d ∷ x) h ∙ (rw (past_prefix is_name_byte v d x w e) refl);
+    tripled = λ t. absurd (never_tripled c (take n v ++ drop n v) (letter_no_quote c h) t);
+  };
+}
 
 pub name_token : (s : List ℕ) (n : ℕ) → 0 < length s → is_letter (get_or s 0 0) ≡ true → n ≡ prefix_len is_name_byte s → BeginsToken Name n s
 name_token [] n some h e = absurd (omega arith)
@@ -77,11 +80,14 @@ name_token (c ∷ v) n some h e = subst (λ m. BeginsToken Name m (c ∷ v)) (sy
 
 number_at : (c : ℕ) (v : List ℕ) → is_digit c ≡ true → BeginsToken Int (suc (prefix_len is_digit v)) (c ∷ v)
 number_at c v h = let n = prefix_len is_digit v in record {
-    some = omega arith; within = (let l = prefix_within is_digit v in omega arith);
-    is = record {
-      has = kind-digit c (take n v) h ∙ (rw (prefix_all is_digit v) refl);
-      longest = λ d x w e. kind-digit c (take n v ++ d ∷ x) h ∙ (rw (past_prefix is_digit v d x w e) refl);
-      tripled = λ t. absurd (never_tripled c (take n v ++ drop n v) (digit_no_quote c h) t) } }
+  some = omega arith;
+  within = (let l = prefix_within is_digit v in omega arith);
+  is = record {
+    has = kind-digit c (take n v) h ∙ (rw (prefix_all is_digit v) refl);
+    longest = λ d x w e. kind-digit c (take n v ++ d ∷ x) h ∙ (rw (past_prefix is_digit v d x w e) refl);
+    tripled = λ t. absurd (never_tripled c (take n v ++ drop n v) (digit_no_quote c h) t);
+  };
+}
 
 pub number_token : (s : List ℕ) (n : ℕ) → 0 < length s → is_digit (get_or s 0 0) ≡ true → n ≡ prefix_len is_digit s → BeginsToken Int n s
 number_token [] n some h e = absurd (omega arith)
@@ -90,11 +96,14 @@ number_token (c ∷ v) n some h e = subst (λ m. BeginsToken Int m (c ∷ v)) (s
 -- the name after a `$`
 var_at : (c : ℕ) (v : List ℕ) → is_letter c ≡ true → BeginsToken Var (suc (suc (prefix_len is_name_byte v))) (36 ∷ c ∷ v)
 var_at c v h = let n = prefix_len is_name_byte v in record {
-    some = omega arith; within = (let l = prefix_within is_name_byte v in omega arith);
-    is = record {
-      has = kind-dollar (c ∷ take n v) ∙ (rw (h, prefix_all is_name_byte v) refl);
-      longest = λ d x w e. kind-dollar (c ∷ take n v ++ d ∷ x) ∙ (rw (h, past_prefix is_name_byte v d x w e) refl);
-      tripled = λ t. absurd (never_tripled 36 (c ∷ take n v ++ drop n v) refl t) } }
+  some = omega arith;
+  within = (let l = prefix_within is_name_byte v in omega arith);
+  is = record {
+    has = kind-dollar (c ∷ take n v) ∙ (rw (h, prefix_all is_name_byte v) refl);
+    longest = λ d x w e. kind-dollar (c ∷ take n v ++ d ∷ x) ∙ (rw (h, past_prefix is_name_byte v d x w e) refl);
+    tripled = λ t. absurd (never_tripled 36 (c ∷ take n v ++ drop n v) refl t);
+  };
+}
 
 abbrev is_dollar : ℕ → Bool
 is_dollar c = nat_eq c 36
@@ -148,16 +157,26 @@ other_kind : (a : ℕ) (v : List ℕ) → IsOther a → kind_of (a ∷ v) ≡ ma
 other_kind a v o = kind-other a v o.letter o.digit o.dollar o.mark
 
 pair_token : (a b : ℕ) (v : List ℕ) (k : Kind) → IsOther a → mark_in marks (a ∷ b ∷ []) ≡ Some k → BeginsToken k 2 (a ∷ b ∷ v)
-pair_token a b v k o h = record { some = omega arith; within = omega arith; is = record {
-      has = other_kind a (b ∷ []) o ∙ h;
-      longest = λ d x w e. other_kind a (b ∷ d ∷ x) o ∙ too_long marks refl a b d x;
-      tripled = λ t. absurd (never_tripled a (b ∷ v) o.mark t) } }
+pair_token a b v k o h = record {
+  some = omega arith;
+  within = omega arith;
+  is = record {
+    has = other_kind a (b ∷ []) o ∙ h;
+    longest = λ d x w e. other_kind a (b ∷ d ∷ x) o ∙ too_long marks refl a b d x;
+    tripled = λ t. absurd (never_tripled a (b ∷ v) o.mark t);
+  };
+}
 
 one_token : (a : ℕ) (v : List ℕ) (k : Kind) → IsOther a → pair_at (a ∷ v) ≡ None → mark_in marks (a ∷ []) ≡ Some k → BeginsToken k 1 (a ∷ v)
-one_token a v k o p h = record { some = omega arith; within = omega arith; is = record {
-      has = other_kind a [] o ∙ h;
-      longest = λ d x w e. other_kind a (d ∷ x) o ∙ longer d x w (subst (λ y. pair_at (a ∷ y) ≡ None) e p);
-      tripled = λ t. absurd (never_tripled a v o.mark t) } }
+one_token a v k o p h = record {
+  some = omega arith;
+  within = omega arith;
+  is = record {
+    has = other_kind a [] o ∙ h;
+    longest = λ d x w e. other_kind a (d ∷ x) o ∙ longer d x w (subst (λ y. pair_at (a ∷ y) ≡ None) e p);
+    tripled = λ t. absurd (never_tripled a v o.mark t);
+  };
+}
   where
     longer : (d : ℕ) (x w : List ℕ) → pair_at (a ∷ d ∷ (x ++ w)) ≡ None → mark_in marks (a ∷ d ∷ x) ≡ None
     longer d [] w p = p

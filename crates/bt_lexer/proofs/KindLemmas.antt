@@ -96,4 +96,4 @@ kind-tripled (a ∷ b ∷ []) h = absurd (cc)
 kind-tripled (a ∷ b ∷ c ∷ v) h =
     let (e, f) = quote_then a b c v h in
     subst (λ y. kind_of (y ∷ b ∷ c ∷ v) ≡ (if is_tripled (y ∷ b ∷ c ∷ v) then Some Text else None)) (sym e)
-      (subst (λ y. kind_of (quote ∷ y ∷ c ∷ v) ≡ (if is_tripled (quote ∷ y ∷ c ∷ v) then Some Text else None)) (sym f) (kind-quote (quote ∷ c ∷ v)))
+    (subst (λ y. kind_of (quote ∷ y ∷ c ∷ v) ≡ (if is_tripled (quote ∷ y ∷ c ∷ v) then Some Text else None)) (sym f) (kind-quote (quote ∷ c ∷ v)))

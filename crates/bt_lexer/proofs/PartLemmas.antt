@@ -46,12 +46,15 @@ unicode_cases (Some n) next p h = go (is_high n) refl next h
     pair : (m : ℕ) (b : Bool) → (if b then Some (record { len = 12; value = encode_utf8 (pair_value n m) }) else None) ≡ Some p → p.len ≡ 12
     pair m true h = let q = len_of (Some p) in let e : Some (record { len = 12; value = encode_utf8 (pair_value n m) }) ≡ Some p = h in sym (ap len_of e)
     pair m false h = absurd (cc)
+
     alone : (b : Bool) → (if b then None else Some (record { len = 6; value = encode_utf8 n })) ≡ Some p → p.len ≡ 6
     alone true h = absurd (cc)
     alone false h = sym (ap len_of h)
+
     high : is_high n ≡ true → (next : Option ℕ) → pair_of n next ≡ Some p → Unicode (Some n) next p
     high e None h = absurd (cc)
     high e (Some m) h = record { n = n; first = refl; rest = inl (e, m, refl, pair m (is_low m) h) }
+
     go : (b : Bool) → is_high n ≡ b → (next : Option ℕ) → unicode_of (Some n) next ≡ Some p → Unicode (Some n) next p
     go true e next h = high e next (subst (λ b. (if b then pair_of n next else if is_low n then None else Some (record { len = 6; value = encode_utf8 n })) ≡ Some p) e h)
     go false e next h = record { n = n; first = refl; rest = inr (e, alone (is_low n) (subst (λ b. (if b then pair_of n next else if is_low n then None else Some (record { len = 6; value = encode_utf8 n })) ≡ Some p) e h)) }

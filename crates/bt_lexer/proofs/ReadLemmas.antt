@@ -32,8 +32,8 @@ module _ (s : List ℕ) (at : ℕ) (dot : Bool) where
       let len = length-take-le n (drop at s) w.within in
       let rest = drop-drop n at s in
       subst (λ m. Reads at dot (drop at s) (before (record { kind = k; from = at; to = at + m }) r)) len
-        (token k (take n (drop at s)) (drop n (drop at s)) (sym (take-append-drop n (drop at s))) w.is good
-          (subst (λ m. Reads (at + m) (is_dot k) (drop n (drop at s)) r) (sym len) (subst (λ y. Reads (at + n) (is_dot k) y r) (sym rest) more)))
+      (token k (take n (drop at s)) (drop n (drop at s)) (sym (take-append-drop n (drop at s))) w.is good
+      (subst (λ m. Reads (at + m) (is_dot k) (drop n (drop at s)) r) (sym len) (subst (λ y. Reads (at + n) (is_dot k) y r) (sym rest) more)))
 
   pub gap_then : (n : ℕ) → FindsGap (drop at s) n → 0 < n → (r : Result (List Token) LexFault) → Reads (at + n) false (drop (at + n) s) r → Reads at dot (drop at s) r
   gap_then zero g some r more = absurd (omega arith)
@@ -41,7 +41,7 @@ module _ (s : List ℕ) (at : ℕ) (dot : Bool) where
       let len = length-take-le (suc n) (drop at s) le in
       let rest = drop-drop (suc n) at s in
       gap (take (suc n) (drop at s)) (drop (suc n) (drop at s)) (sym (take-append-drop (suc n) (drop at s))) g
-        (subst (λ m. Reads (at + m) false (drop (suc n) (drop at s)) r) (sym len) (subst (λ y. Reads (at + suc n) false y r) (sym rest) more))
+      (subst (λ m. Reads (at + m) false (drop (suc n) (drop at s)) r) (sym len) (subst (λ y. Reads (at + suc n) false y r) (sym rest) more))
 
   pub gap_within : (n : ℕ) → FindsGap (drop at s) n → at ≤ length s → at + n ≤ length s
   gap_within zero g le = omega arith

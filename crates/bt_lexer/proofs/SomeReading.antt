@@ -74,20 +74,32 @@ token_or_none : (s : List ℕ) → TokenAt s ⊎ NoToken s
 token_or_none s = go (begins_tripled s) refl
   where
     plain : begins_tripled s ≡ false → Longest kind_of s ⊎ Nowhere kind_of s → TokenAt s ⊎ NoToken s
-    plain h (inl x) = inl (record { kind = x.kind; u = x.u; rest = x.rest; whole = x.whole;
-        is = record { has = x.has; longest = x.longest; tripled = λ t. (let y : begins_tripled (x.u ++ x.rest) ≡ false = subst (λ y. begins_tripled y ≡ false) x.whole h in let z : true ≡ false = sym t ∙ y in cc) } })
+    plain h (inl x) = inl (record {
+      kind = x.kind;
+      u = x.u;
+      rest = x.rest;
+      whole = x.whole;
+      is = record { has = x.has; longest = x.longest; tripled = λ t. (let y : begins_tripled (x.u ++ x.rest) ≡ false = subst (λ y. begins_tripled y ≡ false) x.whole h in let z : true ≡ false = sym t ∙ y in cc) };
+    })
     plain h (inr none) = inr (λ k u rest e w. let x : None ≡ some_kind k = sym (none u rest e) ∙ w.has in cc)
+
     tripled : begins_tripled s ≡ true → Longest tripled_kind s ⊎ Nowhere tripled_kind s → TokenAt s ⊎ NoToken s
     tripled h (inl x) =
         let is : is_tripled x.u ≡ true = is_some_tripled (is_tripled x.u) x.kind x.has in
         let front : begins_tripled x.u ≡ true = tripled_begins x.u is in
-        inl (record { kind = x.kind; u = x.u; rest = x.rest; whole = x.whole;
-          is = record { has = kind-tripled x.u front ∙ x.has; longest = λ c v w e. kind-tripled (x.u ++ c ∷ v) (more_tripled x.u (c ∷ v) front) ∙ x.longest c v w e; tripled = λ t. is } })
+        inl (record {
+          kind = x.kind;
+          u = x.u;
+          rest = x.rest;
+          whole = x.whole;
+          is = record { has = kind-tripled x.u front ∙ x.has; longest = λ c v w e. kind-tripled (x.u ++ c ∷ v) (more_tripled x.u (c ∷ v) front) ∙ x.longest c v w e; tripled = λ t. is };
+        })
     tripled h (inr none) = inr (λ k u rest e w.
         let is : is_tripled u ≡ true = w.tripled (subst (λ y. begins_tripled y ≡ true) e h) in
         let n : tripled_kind u ≡ None = none u rest e in
         let m : tripled_kind u ≡ Some Text = rw is refl in
         let x : None ≡ some_kind Text = sym n ∙ m in cc)
+
     go : (b : Bool) → begins_tripled s ≡ b → TokenAt s ⊎ NoToken s
     go true h = tripled h (longest_of tripled_kind s)
     go false h = plain h (longest_of kind_of s)
@@ -163,6 +175,7 @@ read_within (suc n) at dot (c ∷ v) h = by_gap (gap_or_none (c ∷ v)) (λ at d
     by_token : NoGap (c ∷ v) → TokenAt (c ∷ v) ⊎ NoToken (c ∷ v) → ((at : ℕ) (dot : Bool) (rest : List ℕ) → length rest ≤ n → Read at dot rest) → Read at dot (c ∷ v)
     by_token no_gap (inl t) ih = token_read at dot (c ∷ v) t (λ dot. ih (at + length t.u) dot t.rest (shorter n (c ∷ v) t.u t.rest h t.whole (token_is_some t.kind t.u t.rest t.is))) (is_bad t.kind dot t.u t.rest) refl
     by_token no_gap (inr none) ih = no_token_read at dot c v no_gap none (nat_eq c quote) refl
+
     by_gap : GapAt (c ∷ v) ⊎ NoGap (c ∷ v) → ((at : ℕ) (dot : Bool) (rest : List ℕ) → length rest ≤ n → Read at dot rest) → Read at dot (c ∷ v)
     by_gap (inl g) ih = let m = ih (at + length g.u) false g.rest (shorter n (c ∷ v) g.u g.rest h g.whole (gap_is_some g.u g.rest g.is)) in record { outcome = m.outcome; reads = gap g.u g.rest g.whole g.is m.reads }
     by_gap (inr no_gap) ih = by_token no_gap (token_or_none (c ∷ v)) ih

@@ -62,6 +62,7 @@ module _ (s : List ℕ) (at : ℕ) (rest u more : List ℕ) (le : at ≤ length 
       longer : (v : List ℕ) (m : ℕ) (w : List ℕ) → take (length v + m) (v ++ w) ≡ v ++ take m w
       longer [] m w = let e : 0 + m ≡ m = omega arith in ap (λ n. take n w) e
       longer (c ∷ v) m w = let e : suc (length v) + m ≡ suc (length v + m) = omega arith in ap (λ n. take n (c ∷ (v ++ w))) e ∙ ap (λ y. c ∷ y) (longer v m w)
+
       go : (y : List ℕ) → more ≡ y → (m : ℕ) → to - at ≡ length u + suc m → kind_of (slice_range s at to) ≡ None
       go [] e m f = absurd (omega (arith, length-append u more, ap length whole, ap length here, length-drop at s, ap length e))
       go (c ∷ y) e m f =
@@ -74,7 +75,8 @@ module _ (s : List ℕ) (at : ℕ) (rest u more : List ℕ) (le : at ≤ length 
     within = inside;
     has = ap kind_of the_span ∙ w.has;
     longest = λ to lt fits. past to lt fits k w;
-    number = λ int. subst (λ y. int_value y ≤ 9223372036854775807) (sym the_span) (not_bad_small k dot u more good int) }
+    number = λ int. subst (λ y. int_value y ≤ 9223372036854775807) (sym the_span) (not_bad_small k dot u more good int);
+  }
 
   starts_inside : (k : Kind) → IsToken k u more → at < length s
   starts_inside k w = let l = token_is_some k u more w in let i = inside in omega arith
@@ -92,7 +94,7 @@ placed s at dot rest r le here (gap u more e g h) =
     lower s at (at + length u) (omega arith) r (placed s (at + length u) false more r (inside s at rest u more le here e) (next s at rest u more le here e) h)
 placed s at dot rest _ le here (token {r} k u more e w good h) =
     placed_token s at (record { kind = k; from = at; to = at + length u }) (omega arith) (omega arith) (is_span s at rest u more le here e k dot w good) r
-      (placed s (at + length u) (is_dot k) more r (inside s at rest u more le here e) (next s at rest u more le here e) h)
+    (placed s (at + length u) (is_dot k) more r (inside s at rest u more le here e) (next s at rest u more le here e) h)
 placed s at dot rest _ le here (bad_number k u more e w bad) = (omega arith, starts_inside s at rest u more le here e k w)
 placed s at dot rest _ le here (bad_text v e none) = (omega arith, one_inside s at rest 34 v here e)
 placed s at dot rest _ le here (bad_char c v e none no_gap other) = (omega arith, one_inside s at rest c v here e)

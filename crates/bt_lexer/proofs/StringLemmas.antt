@@ -33,9 +33,11 @@ closed_once (d ∷ x) zero c v h = go (nat_eq d quote) h (λ skip h. closed_once
         closed_here d (x ++ c ∷ v) false (part_at (d ∷ (x ++ c ∷ v))) ≡ false
     part None e some h ih = let z : nat_lt 0 0 ≡ true = some in cc
     part (Some p) e some h ih = rw (part_more (d ∷ x) (c ∷ v) p e) (false_right (nat_lt 0 p.len) _ (ih (p.len - 1) h))
+
     end : (x : List ℕ) → is_empty x ≡ true → is_empty (x ++ c ∷ v) ≡ false
     end [] h = refl
     end (y ∷ x) h = absurd (cc)
+
     go : (b : Bool) → closed_here d x b (part_at (d ∷ x)) ≡ true → ((skip : ℕ) → is_closed x skip ≡ true → is_closed (x ++ c ∷ v) skip ≡ false) → closed_here d (x ++ c ∷ v) b (part_at (d ∷ (x ++ c ∷ v))) ≡ false
     go true h ih = end x h
     go false h ih = part (part_at (d ∷ x)) refl (and_left _ _ h) (and_right _ _ h) ih
@@ -70,13 +72,20 @@ quoted_end_found (c ∷ v) zero n m h = go (nat_eq c quote) refl h (λ skip h. q
         let fits : p.len ≤ 1 + length (take (suc x.j) v) = (let a = x.past in let b = length-take-le (suc x.j) v x.within in omega arith) in
         let whole : part_at (c ∷ (take (suc x.j) v ++ drop (suc x.j) v)) ≡ Some p = rw (take-append-drop (suc x.j) v) e in
         let front : part_at (c ∷ take (suc x.j) v) ≡ Some p = part_less c (take (suc x.j) v) (drop (suc x.j) v) p whole fits in
-        record { j = suc x.j; place = (let e = x.place in omega arith); within = (let e = x.within in omega arith); past = omega arith;
+        record {
+          j = suc x.j;
+          place = (let e = x.place in omega arith);
+          within = (let e = x.within in omega arith);
+          past = omega arith;
           closed = subst (λ b. closed_here c (take (suc x.j) v) b (part_at (c ∷ take (suc x.j) v)) ≡ true) (sym q)
-            (subst (λ o. closed_here c (take (suc x.j) v) false o ≡ true) (sym front) (and_true (nat_lt 0 p.len) _ some x.closed)) }
+              (subst (λ o. closed_here c (take (suc x.j) v) false o ≡ true) (sym front) (and_true (nat_lt 0 p.len) _ some x.closed));
+        }
+
     either : nat_eq c quote ≡ false → (b : Bool) → nat_lt 0 (len_of (part_at (c ∷ v))) ≡ b → (if b then quoted_end v (len_of (part_at (c ∷ v)) - 1) (n + 1) else None) ≡ Some m →
         ((skip : ℕ) → quoted_end v skip (n + 1) ≡ Some m → Closes v skip (n + 1) m) → Closes (c ∷ v) zero n m
     either q true some h ih = part q (part_at (c ∷ v)) refl some (ih (len_of (part_at (c ∷ v)) - 1) h)
     either q false some h ih = absurd (cc)
+
     go : (b : Bool) → nat_eq c quote ≡ b → (if b then Some (n + 1) else if nat_lt 0 (len_of (part_at (c ∷ v))) then quoted_end v (len_of (part_at (c ∷ v)) - 1) (n + 1) else None) ≡ Some m →
         ((skip : ℕ) → quoted_end v skip (n + 1) ≡ Some m → Closes v skip (n + 1) m) → Closes (c ∷ v) zero n m
     go true q h ih = record { j = 0; place = (let e : m ≡ n + 1 = some_same m (n + 1) h in omega arith); within = omega arith; past = omega arith; closed = rw q refl }
@@ -96,6 +105,7 @@ quoted_end_none (c ∷ u) w zero n h = go (nat_eq c quote) refl h (λ skip h. qu
         some : (b : Bool) → nat_lt 0 p.len ≡ b → (if b then quoted_end (u ++ w) (p.len - 1) (n + 1) else None) ≡ None → (b && is_closed u (p.len - 1)) ≡ false
         some true e h = ih (p.len - 1) h
         some false e h = refl
+
     go : (b : Bool) → nat_eq c quote ≡ b → (if b then Some (n + 1) else if nat_lt 0 (len_of (part_at (c ∷ (u ++ w)))) then quoted_end (u ++ w) (len_of (part_at (c ∷ (u ++ w))) - 1) (n + 1) else None) ≡ None →
         ((skip : ℕ) → quoted_end (u ++ w) skip (n + 1) ≡ None → is_closed u skip ≡ false) → closed_here c u b (part_at (c ∷ u)) ≡ false
     go true q h ih = let x : Some (n + 1) ≡ None = h in cc
@@ -141,11 +151,13 @@ tripled_place_found (c ∷ v) n m h = go (begins_tripled (c ∷ v)) refl h (λ h
     three [] h e = absurd (cc)
     three (d ∷ []) h e = absurd (cc)
     three (d ∷ f ∷ v) h e = record { j = 0; place = omega arith; within = omega arith; ends = rw h refl }
+
     later : begins_tripled (c ∷ v) ≡ false → Ends v (n + 1) m → Ends (c ∷ v) n m
     later h x =
         let k = suc (suc (suc x.j)) in
         let front : begins_tripled (c ∷ take k v) ≡ false = less_tripled (c ∷ take k v) (drop k v) (subst (λ y. begins_tripled (c ∷ y) ≡ false) (sym (take-append-drop k v)) h) in
         record { j = suc x.j; place = (let e = x.place in omega arith); within = (let e = x.within in omega arith); ends = rw front x.ends }
+
     go : (b : Bool) → begins_tripled (c ∷ v) ≡ b → (if b then Some n else tripled_place v (n + 1)) ≡ Some m → (tripled_place v (n + 1) ≡ Some m → Ends v (n + 1) m) → Ends (c ∷ v) n m
     go true e h ih = three v e (some_same m n h)
     go false e h ih = later e (ih h)
@@ -171,6 +183,7 @@ ends_once (a ∷ b ∷ d ∷ u) c v h = go (begins_tripled (a ∷ b ∷ d ∷ u)
     longer : (u : List ℕ) → nat_eq (length (b ∷ d ∷ u)) 2 ≡ true → nat_eq (length (b ∷ d ∷ (u ++ c ∷ v))) 2 ≡ false
     longer [] h = not_two (length v)
     longer (e ∷ u) h = let x : length (b ∷ d ∷ e ∷ u) ≡ 2 = grind (arith, nat_tests) in absurd (omega arith)
+
     go : (t : Bool) → begins_tripled (a ∷ b ∷ d ∷ u) ≡ t → (if t then nat_eq (length (b ∷ d ∷ u)) 2 else ends_tripled (b ∷ d ∷ u)) ≡ true → (ends_tripled (b ∷ d ∷ u) ≡ true → ends_tripled (b ∷ d ∷ (u ++ c ∷ v)) ≡ false) →
         (if t then nat_eq (length (b ∷ d ∷ (u ++ c ∷ v))) 2 else ends_tripled (b ∷ d ∷ (u ++ c ∷ v))) ≡ false
     go true e h ih = longer u h
@@ -214,14 +227,20 @@ plain_kind u v e t q = text_kind u v e ∙ (rw (q, tripled_false u t) refl)
 
 module _ (s : List ℕ) (starts : begins is_quote s ≡ true) where
   pub quoted_token : (n : ℕ) → begins_tripled s ≡ false → FindsFront is_quoted s (Some n) → BeginsToken Text n s
-  quoted_token n t (within, is) = record { some = some n is; within = within; is = record {
-        has = quoted_kind (take n s) is;
-        longest = λ c v w e. longest c v w e;
-        tripled = λ h. (let x : begins_tripled s ≡ true = subst (λ y. begins_tripled y ≡ true) (take-append-drop n s) h in let y : true ≡ false = sym x ∙ t in cc) } }
+  quoted_token n t (within, is) = record {
+    some = some n is;
+    within = within;
+    is = record {
+      has = quoted_kind (take n s) is;
+      longest = λ c v w e. longest c v w e;
+      tripled = λ h. (let x : begins_tripled s ≡ true = subst (λ y. begins_tripled y ≡ true) (take-append-drop n s) h in let y : true ≡ false = sym x ∙ t in cc);
+    };
+  }
     where
       some : (n : ℕ) → is_quoted (take n s) ≡ true → 0 < n
       some zero h = absurd (cc)
       some (suc n) h = omega arith
+
       longest : (c : ℕ) (v w : List ℕ) → drop n s ≡ c ∷ (v ++ w) → kind_of (take n s ++ c ∷ v) ≡ None
       longest c v w e =
           let whole : s ≡ (take n s ++ c ∷ v) ++ w = sym (take-append-drop n s) ∙ ap (λ y. take n s ++ y) e ∙ sym (append_assoc (take n s) (c ∷ v) w) in
@@ -238,26 +257,34 @@ module _ (s : List ℕ) (starts : begins is_quote s ≡ true) where
       let (x, begin) = begins_quote s starts in
       let front : begins_tripled u ≡ false = less_tripled u rest (subst (λ y. begins_tripled y ≡ false) e t) in
       ⊎_elim
-        (λ h. (let y : None ≡ some_kind k = sym (ap kind_of h ∙ kind-empty) ∙ w.has in cc))
-        (λ f. (let y : None ≡ some_kind k = sym (plain_kind u f.0 f.1 front (none u rest e)) ∙ w.has in cc))
-        (front_quote s u rest x begin e)
+      (λ h. (let y : None ≡ some_kind k = sym (ap kind_of h ∙ kind-empty) ∙ w.has in cc))
+      (λ f. (let y : None ≡ some_kind k = sym (plain_kind u f.0 f.1 front (none u rest e)) ∙ w.has in cc))
+      (front_quote s u rest x begin e)
 
 pub tripled_token : (s : List ℕ) (n : ℕ) → FindsFront is_tripled s (Some n) → BeginsToken Text n s
-tripled_token s n (within, is) = record { some = some n is; within = within; is = record {
-      has = kind-tripled (take n s) front ∙ (rw is refl);
-      longest = λ c v w e. kind-tripled (take n s ++ c ∷ v) (more_tripled (take n s) (c ∷ v) front) ∙ (rw (once c v) refl);
-      tripled = λ h. is } }
+tripled_token s n (within, is) = record {
+  some = some n is;
+  within = within;
+  is = record {
+    has = kind-tripled (take n s) front ∙ (rw is refl);
+    longest = λ c v w e. kind-tripled (take n s ++ c ∷ v) (more_tripled (take n s) (c ∷ v) front) ∙ (rw (once c v) refl);
+    tripled = λ h. is;
+  };
+}
   where
     some : (n : ℕ) → is_tripled (take n s) ≡ true → 0 < n
     some zero h = absurd (cc)
     some (suc n) h = omega arith
+
     front : begins_tripled (take n s) ≡ true
     front = and_left (begins_tripled (take n s)) (ends_tripled (drop 3 (take n s))) is
+
     past : (u : List ℕ) (c : ℕ) (v : List ℕ) → begins_tripled u ≡ true → ends_tripled (drop 3 u) ≡ true → ends_tripled (drop 3 (u ++ c ∷ v)) ≡ false
     past [] c v h e = absurd (cc)
     past (x ∷ []) c v h e = absurd (cc)
     past (x ∷ y ∷ []) c v h e = absurd (cc)
     past (x ∷ y ∷ z ∷ u) c v h e = ends_once u c v e
+
     once : (c : ℕ) (v : List ℕ) → is_tripled (take n s ++ c ∷ v) ≡ false
     once c v = false_right (begins_tripled (take n s ++ c ∷ v)) (ends_tripled (drop 3 (take n s ++ c ∷ v))) (past (take n s) c v front (and_right (begins_tripled (take n s)) (ends_tripled (drop 3 (take n s))) is))
 
@@ -342,12 +369,12 @@ quoted_step s at n h q is some =
     let is' : n ≡ len_of (part_at (get_or s at 0 ∷ drop (at + 1) s)) = subst (λ y. n ≡ len_of (part_at y)) e is in
     let k : (at + 1) + (n - 1) ≡ at + n = omega arith in
     ap (λ y. quoted_end y 0 at) e ∙ go (get_or s at 0) (drop (at + 1) s) (not_quote _ q) (sym is')
-      ∙ quoted_end_skip (drop (at + 1) s) (n - 1) (at + 1) ∙ ap (λ y. quoted_end y 0 ((at + 1) + (n - 1))) (drop-drop (n - 1) (at + 1) s) ∙ ap (λ y. quoted_end (drop y s) 0 y) k
+    ∙ quoted_end_skip (drop (at + 1) s) (n - 1) (at + 1) ∙ ap (λ y. quoted_end y 0 ((at + 1) + (n - 1))) (drop-drop (n - 1) (at + 1) s) ∙ ap (λ y. quoted_end (drop y s) 0 y) k
   where
     go : (c : ℕ) (v : List ℕ) → nat_eq c quote ≡ false → len_of (part_at (c ∷ v)) ≡ n → quoted_end (c ∷ v) 0 at ≡ quoted_end v (n - 1) (at + 1)
     go c v q z = subst (λ b. (if b then Some (at + 1) else if nat_lt 0 (len_of (part_at (c ∷ v))) then quoted_end v (len_of (part_at (c ∷ v)) - 1) (at + 1) else None) ≡ quoted_end v (n - 1) (at + 1)) (sym q)
         (subst (λ m. (if nat_lt 0 m then quoted_end v (m - 1) (at + 1) else None) ≡ quoted_end v (n - 1) (at + 1)) (sym z)
-          (subst (λ b. (if b then quoted_end v (n - 1) (at + 1) else None) ≡ quoted_end v (n - 1) (at + 1)) (sym (a_len n some)) refl))
+        (subst (λ b. (if b then quoted_end v (n - 1) (at + 1) else None) ≡ quoted_end v (n - 1) (at + 1)) (sym (a_len n some)) refl))
 
 pub part_within : (s : List ℕ) (at n : ℕ) → at < length s → n ≡ len_of (part_at (drop at s)) → at + n ≤ length s
 part_within s at n h is = omega (arith, part_fits (drop at s), length-drop at s)

@@ -13,6 +13,8 @@ mod marks;
 pub mod places;
 pub mod reading;
 mod strings;
+#[cfg(test)]
+mod tests;
 pub mod token;
 mod words;
 
@@ -27,13 +29,11 @@ pub fn one_reading()
     ensures one_fault { (s : List ℕ) (f g : LexFault) → HasFault s f → HasFault s g → f ≡ g }
     ensures never_both { (s : List ℕ) (ts : List Token) (f : LexFault) → HasTokens s ts → HasFault s f → ⊥ }
     ensures never_neither { (s : List ℕ) → ((ts : List Token) × HasTokens s ts) ⊎ ((f : LexFault) × HasFault s f) }
-{
-}
+{}
 
 /// A law: the tokens of a text are spans of it that rise, each the longest of its kind, and a fault is at a byte of it.
 /// The call does nothing.
 pub fn spans_rise()
     ensures tokens { (s : List ℕ) (ts : List Token) → HasTokens s ts → AreSpans s 0 ts }
     ensures fault { (s : List ℕ) (f : LexFault) → HasFault s f → IsFaultWithin s 0 f }
-{
-}
+{}

@@ -119,13 +119,20 @@ fn settle(text: &[u8], found: &mut Tokens, behind: Behind, token: &Token) -> Res
     ensures err { IfErr result (λ e. e ≡ LexFault.NoMemory) }
 {
     match behind {
-        Behind::Pending(line) if !(is_closing(token.kind) || is_else(text, token)) => push(found, line),
+        Behind::Pending(line) if !(is_closing(token.kind) || is_else(text, token)) => push(
+            found, line,
+        ),
         _ => Ok(()),
     }
 }
 
 /// Adds a token, and says what stands behind then.
-pub fn keep(text: &[u8], found: &mut Tokens, behind: Behind, token: Token) -> Result<Behind, LexFault>
+pub fn keep(
+    text: &[u8],
+    found: &mut Tokens,
+    behind: Behind,
+    token: Token,
+) -> Result<Behind, LexFault>
     requires order { token.from ≤ token.to }
     requires within { token.to ≤ length text.now }
     ensures ok { IfOk result (λ b. (us : List Token) → completed text.now found.new.list b us ≡ completed text.now found.old.list behind (token ∷ us)) }

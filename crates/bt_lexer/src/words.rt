@@ -125,7 +125,9 @@ pub fn is_bad(kind: Kind, after_dot: bool, bytes: &[u8], rest: &[u8]) -> bool
     ensures { result ≡ tokens.is_bad kind after_dot bytes.now rest.now }
 {
     match kind {
-        Kind::Int => is_too_large(bytes) || begins_with_letter(rest) || !after_dot && begins_fraction(rest),
+        Kind::Int => is_too_large(bytes)
+            || begins_with_letter(rest)
+            || !after_dot && begins_fraction(rest),
         _ => false,
     }
 }

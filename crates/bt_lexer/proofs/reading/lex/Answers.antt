@@ -20,7 +20,7 @@ pub returns-clause-tokens : goal.returns-clause-tokens
 returns-clause-tokens c =
     let s = c.as_bytes-bytes.result.now in
     subst (λ y. HasTokens y c.loop-at.found.list) c.as_bytes-bytes.ensures.value
-      (end_reached s c.loop-at.at c.loop-at.after_dot c.loop-at.found.list c.loop-at.behind c.loop-at-test.false c.loop-at.invariant.good)
+    (end_reached s c.loop-at.at c.loop-at.after_dot c.loop-at.found.list c.loop-at.behind c.loop-at-test.false c.loop-at.invariant.good)
 
 pub returns-in_err-token-clause-place : goal.returns-in_err-token-clause-place
 returns-in_err-token-clause-place c =
