@@ -241,3 +241,7 @@ too_large xs i value limit h e l = is_above limit (int_value xs) (omega (arith, 
 pub no_token_at_end : (s : List ℕ) → length s ≡ 0 → NoToken s
 no_token_at_end s h k [] rest e w = let x : None ≡ some_kind k = sym kind-empty ∙ w.has in cc
 no_token_at_end s h k (c ∷ u) rest e w = absurd (omega (arith, ap length e))
+
+-- each step towards a number that isn't too large is within it
+pub int_step : (xs : List ℕ) (i value limit : ℕ) → i < length xs → value ≡ int_value (take i xs) → int_value xs ≤ limit → value * 10 + (get_or xs i 0 - 48) ≤ limit
+int_step xs i value limit h e l = omega (arith, int_more xs i h, e, l, int_front xs (i + 1))

@@ -7,3 +7,4 @@ pub mod StringLemmas
 pub mod FrontLemmas
 pub mod ReadLemmas
 pub mod SpanLemmas
+pub mod PieceLemmas

@@ -10,6 +10,7 @@ ghost use Rattle.bt_lexer.specs.Spans.{AreSpans, IsFaultWithin};
 mod bytes;
 mod lines;
 mod marks;
+pub mod pieces;
 pub mod places;
 pub mod reading;
 mod strings;
@@ -18,6 +19,7 @@ mod tests;
 pub mod token;
 mod words;
 
+pub use pieces::{int_value, piece};
 pub use places::place;
 pub use reading::lex;
 pub use token::{Kind, LexFault, Place, Token, Tokens};

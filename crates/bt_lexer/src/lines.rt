@@ -118,12 +118,13 @@ fn settle(text: &[u8], found: &mut Tokens, behind: Behind, token: &Token) -> Res
     ensures ok { OnOk result ((us : List Token) → found.new.list ++ token.now ∷ lines.hardened text.now (Some token.now.kind) us ≡ completed text.now found.old.list behind (token.now ∷ us)) }
     ensures err { IfErr result (λ e. e ≡ LexFault.NoMemory) }
 {
-    match behind {
-        Behind::Pending(line) if !(is_closing(token.kind) || is_else(text, token)) => push(
-            found, line,
-        ),
-        _ => Ok(()),
+    let Behind::Pending(line) = behind else {
+        return Ok(());
+    };
+    if is_closing(token.kind) || is_else(text, token) {
+        return Ok(());
     }
+    push(found, line)
 }
 
 /// Adds a token, and says what stands behind then.

@@ -76,8 +76,7 @@ pub fn lex(alloc: Global, text: &str) -> Result<Tokens, LexFault>
     let bytes = text.as_bytes();
     let mut found = Tokens::new(alloc);
     let mut behind = Behind::Nothing;
-    let mut after_dot = false;
-    let mut at = 0;
+    let (mut at, mut after_dot) = (0, false);
     while at < bytes.len() {
         let gap = gap_len(from_place(bytes, at));
         if gap > 0 {
