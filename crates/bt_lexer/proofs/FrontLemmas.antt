@@ -14,7 +14,7 @@ use Rattle.bt_lexer.proofs.KindLemmas.{kind-letter, kind-digit, kind-dollar, kin
 use Rattle.bt_lexer.proofs.OneReading.{run_ends}
 use Rattle.bt_lexer.proofs.SomeReading.{no_gap_here}
 
-prefix_all : (p : ℕ → Bool) (s : List ℕ) → list_all p (take (prefix_len p s) s) ≡ true
+pub prefix_all : (p : ℕ → Bool) (s : List ℕ) → list_all p (take (prefix_len p s) s) ≡ true
 prefix_all p [] = refl
 prefix_all p (c ∷ v) = go (p c) refl (prefix_all p v)
   where
@@ -22,7 +22,7 @@ prefix_all p (c ∷ v) = go (p c) refl (prefix_all p v)
     go false h ih = refl
     go true h ih = let e : 1 + prefix_len p v ≡ suc (prefix_len p v) = omega arith in subst (λ n. list_all p (take n (c ∷ v)) ≡ true) (sym e) (rw h ih)
 
-prefix_ends : (p : ℕ → Bool) (s : List ℕ) → begins p (drop (prefix_len p s) s) ≡ false
+pub prefix_ends : (p : ℕ → Bool) (s : List ℕ) → begins p (drop (prefix_len p s) s) ≡ false
 prefix_ends p [] = refl
 prefix_ends p (c ∷ v) = go (p c) refl (prefix_ends p v)
   where

@@ -8,3 +8,5 @@ pub mod FrontLemmas
 pub mod ReadLemmas
 pub mod SpanLemmas
 pub mod PieceLemmas
+pub mod ValueLemmas
+pub mod TextLemmas

@@ -2,8 +2,8 @@
 use Rattle.std.proofs.Common.{◌≡◌, ℕ, zero, suc, ◌+◌, ◌-◌, ◌≤◌, ◌<◌, Bool, true, false, ◌&&◌, ◌||◌, List, [], ◌∷◌, ◌++◌, length, take, drop, refl, sym, subst, ap, ◌∙◌, ◌⊎◌, inl, inr, ⊎_elim, arith, Option, Some, None, nat_eq, nat_lt, if◌then◌else◌, length-append, length-drop}
 use Rattle.std.specs.Prelude.{encode_utf8}
 use Rattle.std.proofs.lemmas.List.{drop-append-le}
-use Rattle.bt_lexer.specs.Bytes.{backslash, quote, line_feed}
-use Rattle.bt_lexer.specs.Strings.{Part, pair_value, unit_at, escaped_unit_at, unicode_of, pair_of, is_high, is_low, short_of, short_escape, escape_at, part_at, len_of}
+use Rattle.bt_lexer.specs.Bytes.{backslash}
+use Rattle.bt_lexer.specs.Strings.{Part, pair_value, unit_at, escaped_unit_at, unicode_of, pair_of, is_high, is_low, short_of, short_escape, escape_at, is_plain, part_at, len_of}
 
 unit_len : (x : List ℕ) (n : ℕ) → unit_at x ≡ Some n → 4 ≤ length x
 unit_len [] n h = cc
@@ -39,7 +39,7 @@ pub record Unicode (o next : Option ℕ) (p : Part) : Type 0 where
   pub first : o ≡ Some n
   pub rest : ((is_high n ≡ true) × (m : ℕ) × (next ≡ Some m) × (p.len ≡ 12)) ⊎ ((is_high n ≡ false) × (p.len ≡ 6))
 
-unicode_cases : (o next : Option ℕ) (p : Part) → unicode_of o next ≡ Some p → Unicode o next p
+pub unicode_cases : (o next : Option ℕ) (p : Part) → unicode_of o next ≡ Some p → Unicode o next p
 unicode_cases None next p h = absurd (cc)
 unicode_cases (Some n) next p h = go (is_high n) refl next h
   where
@@ -63,7 +63,7 @@ unicode_cases (Some n) next p h = go (is_high n) refl next h
 no_next : (n : ℕ) (next other : Option ℕ) → is_high n ≡ false → unicode_of (Some n) next ≡ unicode_of (Some n) other
 no_next n next other h = rw h refl
 
-abbrev unicode_at : List ℕ → Option Part
+abbrev pub unicode_at : List ℕ → Option Part
 unicode_at x = unicode_of (unit_at x) (escaped_unit_at (drop 4 x))
 
 -- bytes at the end change nothing where these many are there
@@ -95,11 +95,11 @@ unicode_long x p h = go (unicode_cases (unit_at x) (escaped_unit_at (drop 4 x)) 
     go : Unicode (unit_at x) (escaped_unit_at (drop 4 x)) p → 6 ≤ p.len
     go u = ⊎_elim (λ a. omega (arith, a.3)) (λ b. omega (arith, b.1)) u.rest
 
-short_len : (o : Option ℕ) (p : Part) → short_of o ≡ Some p → p.len ≡ 2
+pub short_len : (o : Option ℕ) (p : Part) → short_of o ≡ Some p → p.len ≡ 2
 short_len None p h = absurd (cc)
 short_len (Some c) p h = sym (ap len_of h)
 
-abbrev either : (e : ℕ) (x : List ℕ) (b : Bool) → Option Part
+abbrev pub either : (e : ℕ) (x : List ℕ) (b : Bool) → Option Part
 either e x b = if b then unicode_at x else short_of (short_escape e)
 
 either_more : (e : ℕ) (x w : List ℕ) (p : Part) (b : Bool) → either e x b ≡ Some p → either e (x ++ w) b ≡ Some p
@@ -127,7 +127,7 @@ escape_less [] w p h fits = let l = escape_long w p h in absurd (omega arith)
 escape_less (e ∷ x) w p h fits = either_less e x w p (nat_eq e 117) h (omega arith)
 
 abbrev choice : ℕ → List ℕ → Bool → Option Part
-choice c v b = if b then escape_at v else if nat_eq c quote || nat_eq c line_feed then None else Some (record { len = 1; value = c ∷ [] })
+choice c v b = if b then escape_at v else if is_plain c then Some (record { len = 1; value = c ∷ [] }) else None
 
 choice_more : (c : ℕ) (v w : List ℕ) (p : Part) (b : Bool) → choice c v b ≡ Some p → choice c (v ++ w) b ≡ Some p
 choice_more c v w p true h = escape_more v w p h
@@ -161,13 +161,13 @@ escape_fits : (v : List ℕ) (p : Part) → escape_at v ≡ Some p → p.len ≤
 escape_fits [] p h = absurd (cc)
 escape_fits (e ∷ x) p h = let l = either_fits e x p (nat_eq e 117) h in omega arith
 
-alone_fits : (c : ℕ) (p : Part) (b : Bool) → (if b then None else Some (record { len = 1; value = c ∷ [] })) ≡ Some p → p.len ≡ 1
-alone_fits c p true h = absurd (cc)
-alone_fits c p false h = sym (ap len_of h)
+alone_fits : (c : ℕ) (p : Part) (b : Bool) → (if b then Some (record { len = 1; value = c ∷ [] }) else None) ≡ Some p → p.len ≡ 1
+alone_fits c p false h = absurd (cc)
+alone_fits c p true h = sym (ap len_of h)
 
 choice_fits : (c : ℕ) (v : List ℕ) (p : Part) (b : Bool) → choice c v b ≡ Some p → p.len ≤ 1 + length v
 choice_fits c v p true h = escape_fits v p h
-choice_fits c v p false h = let l = alone_fits c p (nat_eq c quote || nat_eq c line_feed) h in omega arith
+choice_fits c v p false h = let l = alone_fits c p (is_plain c) h in omega arith
 
 -- a part is spelled within the text
 pub part_fits : (s : List ℕ) → len_of (part_at s) ≤ length s

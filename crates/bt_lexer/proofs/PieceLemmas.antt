@@ -109,10 +109,10 @@ mark_ends (m ∷ ms) all u k h = go (same_text u m.0) refl h (λ h. mark_ends ms
     go false e h ih = ih h
 
 -- the kind by its tests
-abbrev by_tests : (n v i t : Bool) → Option Kind → Option Kind
+abbrev pub by_tests : (n v i t : Bool) → Option Kind → Option Kind
 by_tests n v i t m = if n then Some Name else if v then Some Var else if i then Some Int else if t then Some Text else m
 
-kind-tests : (u : List ℕ) → kind_of u ≡ by_tests (is_name u) (is_var u) (is_number u) (is_text u) (mark_in marks u)
+pub kind-tests : (u : List ℕ) → kind_of u ≡ by_tests (is_name u) (is_var u) (is_number u) (is_text u) (mark_in marks u)
 unfolding kind_of
 kind-tests u = refl
 

@@ -1,5 +1,5 @@
 -- The tokens of a text are spans of it that rise.
-use Rattle.std.proofs.Common.{◌≡◌, ℕ, zero, suc, ◌+◌, ◌-◌, ◌≤◌, ◌<◌, Bool, true, false, ◌&&◌, ◌||◌, not, List, [], ◌∷◌, ◌++◌, length, take, drop, refl, sym, subst, ap, ◌∙◌, arith, Option, Some, None, Result, Ok, Err, if◌then◌else◌, nat_lt, slice_range, take-append-drop, length-drop, length-append}
+use Rattle.std.proofs.Common.{◌≡◌, ℕ, zero, suc, ◌+◌, ◌-◌, ◌≤◌, ◌<◌, Bool, true, false, ◌&&◌, ◌||◌, not, List, [], ◌∷◌, ◌++◌, length, take, drop, refl, sym, subst, ap, ◌∙◌, arith, Option, Some, None, Result, Ok, Err, if◌then◌else◌, nat_lt, slice_range, slice_get, take-append-drop, length-drop, length-append}
 use Rattle.std.proofs.lemmas.Bool.Decides.{nat_tests}
 use Rattle.std.proofs.lemmas.List.{drop-drop, drop_at, take_at}
 use Rattle.bt_lexer.specs.declared.token.Kind.{Kind}
@@ -112,3 +112,18 @@ tokens_spans s ts h = subst (AreSpans s 0) (sym h.hard) (spans_hardened s s None
 
 pub fault_within : (s : List ℕ) (f : LexFault) → HasFault s f → IsFaultWithin s 0 f
 fault_within s f h = placed s 0 false s (Err f) (omega arith) refl h
+
+some_token : (t u : Token) → Some t ≡ Some u → t ≡ u
+some_token t u h = cc
+
+each_span : (s : List ℕ) (low : ℕ) (ts : List Token) → AreSpans s low ts → (i : ℕ) (t : Token) → slice_get ts i ≡ Some t → IsSpan s t
+each_span s low [] h i t e = absurd (none i e)
+  where
+    none : (i : ℕ) → slice_get [] i ≡ Some t → ⊥
+    none zero e = cc
+    none (suc i) e = cc
+each_span s low (u ∷ ts) (le, span, more) zero t e = subst (IsSpan s) (some_token u t e) span
+each_span s low (u ∷ ts) (le, span, more) (suc i) t e = each_span s u.to ts more i t e
+
+pub tokens_each : (s : List ℕ) (ts : List Token) → HasTokens s ts → (i : ℕ) (t : Token) → slice_get ts i ≡ Some t → IsSpan s t
+tokens_each s ts h i t e = each_span s 0 ts (tokens_spans s ts h) i t e

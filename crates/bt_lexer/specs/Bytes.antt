@@ -12,6 +12,9 @@ is_quote c = c == quote
 abbrev pub backslash : ℕ
 backslash = 92
 
+abbrev pub is_backslash : ℕ → Bool
+is_backslash c = c == backslash
+
 abbrev pub line_feed : ℕ
 line_feed = 10
 

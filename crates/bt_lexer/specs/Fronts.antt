@@ -1,7 +1,9 @@
 -- What is found at the front of a text.
-use Rattle.std.specs.Prelude.{◌≡◌, ℕ, zero, suc, ◌<◌, ◌≤◌, Bool, true, false, List, [], ◌∷◌, ◌++◌, length, take, drop, Option, Some, None}
+use Rattle.std.specs.Prelude.{◌≡◌, ℕ, zero, suc, ◌<◌, ◌≤◌, Bool, true, false, List, [], ◌∷◌, ◌++◌, length, take, drop, Option, Some, None, encode_utf8}
 use Rattle.bt_lexer.specs.declared.token.Kind.{Kind}
 use Rattle.bt_lexer.specs.declared.token.Token.{Token}
+use Rattle.bt_lexer.specs.Bytes.{begins, is_backslash}
+use Rattle.bt_lexer.specs.Strings.{part_at, unicode_of, pair_of, unit_at, escaped_unit_at}
 use Rattle.bt_lexer.specs.Kinds.{mark_in, marks}
 use Rattle.bt_lexer.specs.Tokens.{IsToken, NoToken, IsGap, NoGap}
 
@@ -36,3 +38,17 @@ pub record IsNext (s : List ℕ) (at : ℕ) (t : Token) : Type 0 where
   pub from : t.from ≡ at
   pub some : at < t.to
   pub within : t.to ≤ length s
+
+-- an escape, by its length and its character, or that none begins here
+abbrev pub FindsEscape : List ℕ → Option (ℕ × ℕ) → Type 0
+FindsEscape s None = begins is_backslash s ≡ true → part_at s ≡ None
+FindsEscape s (Some x) = (begins is_backslash s ≡ true) × (part_at s ≡ Some (record { len = x.0; value = encode_utf8 x.1 }))
+
+-- the escape that `\u` begins, from the first of its digits on
+abbrev pub FindsUnicode : List ℕ → Option (ℕ × ℕ) → Type 0
+FindsUnicode s None = unicode_of (unit_at s) (escaped_unit_at (drop 4 s)) ≡ None
+FindsUnicode s (Some x) = unicode_of (unit_at s) (escaped_unit_at (drop 4 s)) ≡ Some (record { len = x.0; value = encode_utf8 x.1 })
+
+abbrev pub FindsPair : ℕ → Option ℕ → Option (ℕ × ℕ) → Type 0
+FindsPair high next None = pair_of high next ≡ None
+FindsPair high next (Some x) = pair_of high next ≡ Some (record { len = x.0; value = encode_utf8 x.1 })

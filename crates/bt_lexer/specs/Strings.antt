@@ -1,5 +1,5 @@
 -- The two forms of a text in quotation marks, and the bytes that each stands for.
-use Rattle.std.specs.Prelude.{ℕ, zero, suc, ◌+◌, ◌-◌, ◌*◌, Bool, true, false, ◌&&◌, ◌||◌, ◌==◌, nat_le, nat_lt, List, [], ◌∷◌, ◌++◌, length, take, drop, Option, Some, None, if◌then◌else◌, encode_utf8}
+use Rattle.std.specs.Prelude.{ℕ, zero, suc, ◌+◌, ◌-◌, ◌*◌, Bool, true, false, ◌&&◌, ◌||◌, ◌==◌, not, nat_le, nat_lt, List, [], ◌∷◌, ◌++◌, length, take, drop, Option, Some, None, if◌then◌else◌, encode_utf8}
 use Rattle.bt_lexer.specs.Bytes.{is_digit, is_between, quote, backslash, line_feed}
 
 -- a hexadecimal digit, in either case of its letter
@@ -61,10 +61,14 @@ abbrev pub escape_at : List ℕ → Option Part
 escape_at [] = None
 escape_at (e ∷ v) = if e == 117 then unicode_of (unit_at v) (escaped_unit_at (drop 4 v)) else short_of (short_escape e)
 
+-- a byte that stands for itself
+abbrev pub is_plain : ℕ → Bool
+is_plain c = not (c == backslash || c == quote || c == line_feed)
+
 -- the part that begins here: an escape, or any byte but `"`, `\` and a line feed, as it stands
 abbrev pub part_at : List ℕ → Option Part
 part_at [] = None
-part_at (c ∷ v) = if c == backslash then escape_at v else if c == quote || c == line_feed then None else Some (record { len = 1; value = c ∷ [] })
+part_at (c ∷ v) = if c == backslash then escape_at v else if is_plain c then Some (record { len = 1; value = c ∷ [] }) else None
 
 -- how many bytes spell it, or 0 where none begins here
 abbrev pub len_of : Option Part → ℕ

@@ -1,11 +1,11 @@
 //! The tokens of a mapping.
 #![tactic(auto)]
 
-ghost use Rattle.std.specs.Prelude.{◌≡◌, ◌⊎◌, ℕ, List};
+ghost use Rattle.std.specs.Prelude.{◌≡◌, ◌⊎◌, ℕ, List, Some, slice_get};
 ghost use Rattle.bt_lexer.specs.declared.token.Token.{Token};
 ghost use Rattle.bt_lexer.specs.declared.token.LexFault.{LexFault};
 ghost use Rattle.bt_lexer.specs.Lines.{HasTokens, HasFault};
-ghost use Rattle.bt_lexer.specs.Spans.{AreSpans, IsFaultWithin};
+ghost use Rattle.bt_lexer.specs.Spans.{AreSpans, IsSpan, IsFaultWithin};
 
 mod bytes;
 mod lines;
@@ -17,12 +17,14 @@ mod strings;
 #[cfg(test)]
 mod tests;
 pub mod token;
+pub mod values;
 mod words;
 
 pub use pieces::{int_value, piece};
 pub use places::place;
 pub use reading::lex;
 pub use token::{Kind, LexFault, Place, Token, Tokens};
+pub use values::text_value;
 
 /// A law: a text has one list of tokens or one first fault, never both and never neither.
 /// The call does nothing.
@@ -37,5 +39,6 @@ pub fn one_reading()
 /// The call does nothing.
 pub fn spans_rise()
     ensures tokens { (s : List ℕ) (ts : List Token) → HasTokens s ts → AreSpans s 0 ts }
+    ensures each { (s : List ℕ) (ts : List Token) → HasTokens s ts → (i : ℕ) (t : Token) → slice_get ts i ≡ Some t → IsSpan s t }
     ensures fault { (s : List ℕ) (f : LexFault) → HasFault s f → IsFaultWithin s 0 f }
 {}

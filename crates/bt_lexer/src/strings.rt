@@ -4,7 +4,7 @@ ghost use Rattle.std.specs.Prelude.{◌≡◌, ◌≤◌, ◌<◌, ℕ, length, 
 ghost use Rattle.bt_lexer.specs.Bytes.{begins, is_quote};
 ghost use Rattle.bt_lexer.specs.Strings as strings;
 ghost use Rattle.bt_lexer.specs.Strings.{begins_tripled, is_tripled, is_quoted, unit_at, escaped_unit_at, unicode_of, escape_at, part_at, len_of, short_escape};
-ghost use Rattle.bt_lexer.specs.Fronts.{FindsFront, FindsToken};
+ghost use Rattle.bt_lexer.specs.Fronts.{FindsFront, FindsToken, FindsEscape, FindsUnicode, FindsPair};
 
 use crate::bytes::from_place;
 use crate::token::Kind;
@@ -85,30 +85,49 @@ fn short(e: u8) -> Option<u8>
     }
 }
 
-/// How many bytes spell the part that `\u` begins, from the first digit on, or 0 where it is none.
-fn unicode_len(s: &[u8]) -> usize
-    ensures { result ≡ len_of (unicode_of (unit_at s.now) (escaped_unit_at (drop 4 s.now))) }
+/// The character of a pair of surrogates, if the second one follows the first.
+fn pair(high: u32, next: Option<u32>) -> Option<(usize, char)>
+    requires high { strings.is_high high ≡ true }
+    ensures { FindsPair high next result }
 {
-    match unit(s) {
-        None => 0,
-        Some(n) if is_high(n) => match escaped_unit(from_place(s, 4)) {
-            Some(m) if is_low(m) => 12,
-            _ => 0,
-        },
-        Some(n) if is_low(n) => 0,
-        Some(_) => 6,
+    match next {
+        Some(low) if is_low(low) => {
+            match char::from_u32(0x10000 + (high - 0xd800) * 1024 + (low - 0xdc00)) {
+                Some(c) => Some((12, c)),
+                None => None,
+            }
+        }
+        _ => None,
     }
 }
 
-/// How many bytes spell the part that a backslash begins, from the byte after it on, or 0 where it is none.
-fn escape_len(s: &[u8]) -> usize
-    ensures { result ≡ len_of (escape_at s.now) }
+/// The escape that `\u` begins, from the first digit on: how many bytes spell it, and its character.
+fn unicode(s: &[u8]) -> Option<(usize, char)>
+    ensures { FindsUnicode s.now result }
+{
+    let Some(n) = unit(s) else {
+        return None;
+    };
+    if is_high(n) {
+        return pair(n, escaped_unit(from_place(s, 4)));
+    }
+    match char::from_u32(n) {
+        Some(c) => Some((6, c)),
+        None => None,
+    }
+}
+
+/// The escape at the front: how many bytes spell it, and its character.
+pub fn escape(s: &[u8]) -> Option<(usize, char)>
+    ensures { FindsEscape s.now result }
 {
     match s {
-        [] => 0,
-        [b'u', rest @ ..] => unicode_len(rest),
-        [e, ..] if short(*e).is_some() => 2,
-        _ => 0,
+        [b'\\', b'u', rest @ ..] => unicode(rest),
+        [b'\\', e, ..] => match short(*e) {
+            Some(c) => Some((2, char::from(c))),
+            None => None,
+        },
+        _ => None,
     }
 }
 
@@ -117,14 +136,17 @@ fn part_len(s: &[u8]) -> usize
     ensures { result ≡ len_of (part_at s.now) }
 {
     match s {
-        [b'\\', rest @ ..] => escape_len(rest),
+        [b'\\', ..] => match escape(s) {
+            Some((len, _)) => len,
+            None => 0,
+        },
         [] | [b'"' | b'\n', ..] => 0,
         _ => 1,
     }
 }
 
 /// Whether three quotation marks stand at the front.
-fn has_three_marks(s: &[u8]) -> bool
+pub fn has_three_marks(s: &[u8]) -> bool
     ensures { result ≡ begins_tripled s.now }
 {
     matches!(s, [b'"', b'"', b'"', ..])
