@@ -1,14 +1,14 @@
 -- The longest token at the front of a text.
-use Rattle.std.proofs.Common.{◌≡◌, ◌≢◌, ℕ, zero, suc, ◌+◌, ◌-◌, ◌*◌, ◌≤◌, ◌<◌, Bool, true, false, ◌&&◌, not, cond, List, [], ◌∷◌, ◌++◌, length, take, drop, get_or, refl, sym, subst, ap, ◌∙◌, ◌⊎◌, inl, inr, arith, Option, Some, None, nat_eq, nat_le, nat_lt, if◌then◌else◌, take-append-drop}
+use Rattle.std.proofs.Common.{◌≡◌, ℕ, suc, ◌+◌, ◌-◌, ◌*◌, ◌≤◌, ◌<◌, Bool, true, false, cond, List, [], ◌∷◌, ◌++◌, length, take, drop, get_or, refl, sym, subst, ap, ◌∙◌, arith, Option, Some, None, nat_eq, nat_le, nat_lt, take-append-drop}
 use Rattle.std.proofs.lemmas.Bool.Decides.{nat_tests}
 use Rattle.std.specs.List.{list_all, prefix_len, fold}
 use Rattle.std.proofs.lemmas.List.Sums.{fold_more, fold-append}
 use Rattle.bt_lexer.specs.declared.token.Kind.{Kind}
 use Rattle.bt_lexer.specs.declared.token.Kind.TheVariants.{Name, Var, Int}
-use Rattle.bt_lexer.specs.Bytes.{quote, is_quote, begins, is_letter, is_digit, is_name_byte, is_blank, is_in_line}
-use Rattle.bt_lexer.specs.Strings.{begins_tripled, is_tripled}
+use Rattle.bt_lexer.specs.Bytes.{quote, begins, is_letter, is_digit, is_name_byte, is_blank, is_in_line}
+use Rattle.bt_lexer.specs.Strings.{begins_tripled}
 use Rattle.bt_lexer.specs.Kinds.{kind_of, is_name, marks, mark_in, same_text}
-use Rattle.bt_lexer.specs.Tokens.{IsToken, NoToken, IsGap, NoGap, blank, comment, int_value}
+use Rattle.bt_lexer.specs.Tokens.{NoToken, IsGap, NoGap, blank, comment, int_value}
 use Rattle.bt_lexer.specs.Fronts.{BeginsToken, FindsGap, pair_at}
 use Rattle.bt_lexer.proofs.KindLemmas.{kind-letter, kind-digit, kind-dollar, kind-other, kind-empty, and_left, and_right, false_left, false_right, nat_eq_same}
 use Rattle.bt_lexer.proofs.OneReading.{run_ends}

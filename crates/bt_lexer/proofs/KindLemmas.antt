@@ -1,13 +1,12 @@
 -- The kind of a text, by its first byte.
-use Rattle.std.proofs.Common.{◌≡◌, ℕ, Bool, true, false, ◌&&◌, ◌||◌, not, List, [], ◌∷◌, ◌++◌, refl, sym, ap, subst, ◌∙◌, arith, nat_eq, nat_le, zero, suc, ◌<◌, ◌≤◌, length, Option, Some, None, if◌then◌else◌, ◌⊎◌, inl, inr, ⊎_elim}
+use Rattle.std.proofs.Common.{◌≡◌, ℕ, Bool, true, false, ◌&&◌, not, List, [], ◌∷◌, refl, sym, subst, arith, nat_eq, Some, None, if◌then◌else◌}
 use Rattle.std.proofs.lemmas.Bool.Decides.{nat_tests}
-use Rattle.std.proofs.lemmas.List.Folds.{list_all-append}
 use Rattle.std.specs.List.{list_all}
 use Rattle.bt_lexer.specs.declared.token.Kind.{Kind}
-use Rattle.bt_lexer.specs.declared.token.Kind.TheVariants.{Name, Var, Int, Text, Nl}
+use Rattle.bt_lexer.specs.declared.token.Kind.TheVariants.{Name, Var, Int, Text}
 use Rattle.bt_lexer.specs.Bytes.{is_letter, is_digit, is_name_byte, begins, quote}
-use Rattle.bt_lexer.specs.Strings.{is_quoted, is_tripled, begins_tripled, ends_tripled, is_closed}
-use Rattle.bt_lexer.specs.Kinds.{kind_of, is_name, is_var, is_number, is_text, marks, mark_in, same_text}
+use Rattle.bt_lexer.specs.Strings.{is_tripled, begins_tripled}
+use Rattle.bt_lexer.specs.Kinds.{kind_of, is_name, is_text, marks, mark_in, same_text}
 
 pub false_left : (a b : Bool) → a ≡ false → (a && b) ≡ false
 false_left a b h = rw h refl

@@ -1,5 +1,5 @@
 -- A token's text begins and ends with a byte below 128, so a text may be cut round it.
-use Rattle.std.proofs.Common.{◌≡◌, ℕ, zero, suc, ◌+◌, ◌-◌, ◌≤◌, ◌<◌, Bool, true, false, ◌&&◌, ◌||◌, not, List, [], ◌∷◌, ◌++◌, length, take, drop, get_or, refl, sym, subst, ap, ◌∙◌, ◌⊎◌, inl, inr, ⊎_elim, arith, Option, Some, None, if◌then◌else◌, nat_eq, nat_lt, nat_le, slice_range, length-take, length-drop, get_or-take, get_or-drop}
+use Rattle.std.proofs.Common.{◌≡◌, ℕ, zero, suc, ◌+◌, ◌-◌, ◌<◌, Bool, true, false, ◌&&◌, ◌||◌, List, [], ◌∷◌, length, drop, get_or, refl, sym, subst, ap, ◌∙◌, arith, Option, Some, None, if◌then◌else◌, nat_eq, nat_lt, nat_le, slice_range, length-drop, get_or-take, get_or-drop}
 use Rattle.std.proofs.lemmas.Bool.Decides.{nat_tests}
 use Rattle.std.proofs.lemmas.List.{length-take-le}
 use Rattle.std.specs.List.{list_all}
@@ -8,11 +8,11 @@ use Rattle.std.proofs.lemmas.Str.{IsCharBoundary-before_ascii, IsCharBoundary-af
 use Rattle.bt_lexer.specs.declared.token.Kind.{Kind}
 use Rattle.bt_lexer.specs.declared.token.Kind.TheVariants.{Name, Var, Int, Text}
 use Rattle.bt_lexer.specs.declared.token.Token.{Token}
-use Rattle.bt_lexer.specs.Bytes.{quote, is_letter, is_digit, is_name_byte, begins}
+use Rattle.bt_lexer.specs.Bytes.{quote, is_letter, is_digit, is_name_byte}
 use Rattle.bt_lexer.specs.Strings.{part_at, len_of, is_empty, is_closed, is_quoted, begins_tripled, ends_tripled, is_tripled}
 use Rattle.bt_lexer.specs.Kinds.{kind_of, is_name, is_var, is_number, is_text, marks, mark_in, same_text}
 use Rattle.bt_lexer.specs.Spans.{IsSpan}
-use Rattle.bt_lexer.proofs.KindLemmas.{kind-other, kind-empty, no_mark, and_left, and_right, nat_eq_same}
+use Rattle.bt_lexer.proofs.KindLemmas.{kind-other, no_mark, and_left, and_right, nat_eq_same}
 
 -- the last byte is below 128
 abbrev pub ends_ascii : List ℕ → Bool
@@ -60,6 +60,7 @@ closed_ends (c ∷ v) zero h = go (nat_eq c quote) refl h (λ skip h. closed_end
     last : (v : List ℕ) → is_empty v ≡ true → nat_eq c quote ≡ true → ends_ascii (c ∷ v) ≡ true
     last [] h q = quote_low c q
     last (d ∷ v) h q = absurd (cc)
+
     go : (b : Bool) → nat_eq c quote ≡ b → (if b then is_empty v else nat_lt 0 (len_of (part_at (c ∷ v))) && is_closed v (len_of (part_at (c ∷ v)) - 1)) ≡ true → ((skip : ℕ) → is_closed v skip ≡ true → ends_ascii v ≡ true) → ends_ascii (c ∷ v) ≡ true
     go true q h ih = last v h q
     go false q h ih = ends_cons c v (ih (len_of (part_at (c ∷ v)) - 1) (and_right _ _ h))
@@ -77,6 +78,7 @@ tripled_ends (c ∷ d ∷ e ∷ v) h = go (begins_tripled (c ∷ d ∷ e ∷ v))
     last : (v : List ℕ) → begins_tripled (c ∷ d ∷ e ∷ v) ≡ true → nat_eq (length (d ∷ e ∷ v)) 2 ≡ true → ends_ascii (c ∷ d ∷ e ∷ v) ≡ true
     last [] t h = quote_low e (and_right (nat_eq c quote && nat_eq d quote) (nat_eq e quote) t)
     last (f ∷ v) t h = let x : length (d ∷ e ∷ f ∷ v) ≡ 2 = grind (arith, nat_tests) in absurd (omega arith)
+
     go : (b : Bool) → begins_tripled (c ∷ d ∷ e ∷ v) ≡ b → (if b then nat_eq (length (d ∷ e ∷ v)) 2 else ends_tripled (d ∷ e ∷ v)) ≡ true → (ends_tripled (d ∷ e ∷ v) ≡ true → ends_ascii (d ∷ e ∷ v) ≡ true) → ends_ascii (c ∷ d ∷ e ∷ v) ≡ true
     go true t h ih = last v t h
     go false t h ih = ih h

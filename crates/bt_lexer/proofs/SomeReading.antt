@@ -1,6 +1,5 @@
 -- A text is read in some way.
-use Rattle.std.proofs.Common.{◌≡◌, ◌≢◌, ℕ, zero, suc, ◌+◌, ◌≤◌, ◌<◌, Bool, true, false, List, [], ◌∷◌, ◌++◌, length, refl, sym, subst, ap, ◌∙◌, ◌⊎◌, inl, inr, ⊎_elim, arith, Option, Some, None, Result, Ok, Err, nat_eq, if◌then◌else◌, length-append}
-use Rattle.std.proofs.lemmas.Bool.Decides.{nat_tests}
+use Rattle.std.proofs.Common.{◌≡◌, ℕ, zero, suc, ◌+◌, ◌≤◌, ◌<◌, Bool, true, false, List, [], ◌∷◌, ◌++◌, length, refl, sym, subst, ap, ◌∙◌, ◌⊎◌, inl, inr, arith, Option, Some, None, Result, Ok, Err, nat_eq, if◌then◌else◌, length-append}
 use Rattle.std.specs.List.{list_all}
 use Rattle.bt_lexer.specs.declared.token.Kind.{Kind}
 use Rattle.bt_lexer.specs.declared.token.Kind.TheVariants.{Text}

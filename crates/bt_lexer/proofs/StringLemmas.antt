@@ -1,5 +1,5 @@
 -- Where the two forms of a text end.
-use Rattle.std.proofs.Common.{◌≡◌, ℕ, zero, suc, ◌+◌, ◌-◌, ◌≤◌, ◌<◌, Bool, true, false, ◌&&◌, ◌||◌, List, [], ◌∷◌, ◌++◌, length, take, drop, get_or, refl, sym, subst, ap, ◌∙◌, ◌⊎◌, inl, inr, ⊎_elim, arith, Option, Some, None, nat_eq, nat_lt, if◌then◌else◌, length-append, length-drop, take-append-drop, add-zero, append_assoc}
+use Rattle.std.proofs.Common.{◌≡◌, ℕ, zero, suc, ◌+◌, ◌-◌, ◌≤◌, ◌<◌, Bool, true, false, ◌&&◌, ◌||◌, List, [], ◌∷◌, ◌++◌, length, take, drop, get_or, refl, sym, subst, ap, ◌∙◌, ◌⊎◌, inl, inr, ⊎_elim, arith, Option, Some, None, nat_eq, nat_lt, if◌then◌else◌, length-drop, take-append-drop, add-zero, append_assoc}
 use Rattle.std.proofs.lemmas.Bool.Decides.{nat_tests}
 use Rattle.std.proofs.lemmas.List.{length-take-le, drop_more, drop-drop}
 use Rattle.bt_lexer.specs.declared.token.Kind.{Kind}
@@ -7,7 +7,7 @@ use Rattle.bt_lexer.specs.declared.token.Kind.TheVariants.{Text}
 use Rattle.bt_lexer.specs.Bytes.{quote, is_quote, begins}
 use Rattle.bt_lexer.specs.Strings.{Part, part_at, len_of, is_empty, is_closed, is_quoted, begins_tripled, ends_tripled, is_tripled}
 use Rattle.bt_lexer.specs.Kinds.{kind_of, is_text}
-use Rattle.bt_lexer.specs.Tokens.{IsToken, NoToken}
+use Rattle.bt_lexer.specs.Tokens.{NoToken}
 use Rattle.bt_lexer.specs.Fronts.{FindsFront, BeginsToken}
 use Rattle.bt_lexer.proofs.KindLemmas.{kind-quote, kind-tripled, kind-empty, and_left, and_right, false_left, false_right, nat_eq_same}
 use Rattle.bt_lexer.proofs.PartLemmas.{part_more, part_less, part_fits}

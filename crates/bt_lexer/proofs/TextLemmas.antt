@@ -1,12 +1,12 @@
 -- A text's value while it is read from the left, and where its pieces may be cut.
-use Rattle.std.proofs.Common.{◌≡◌, ℕ, zero, suc, ◌+◌, ◌-◌, ◌≤◌, ◌<◌, Bool, true, false, ◌&&◌, ◌||◌, not, List, [], ◌∷◌, ◌++◌, length, take, drop, get_or, refl, sym, subst, ap, ◌∙◌, arith, Option, Some, None, if◌then◌else◌, nat_eq, slice_range, append_assoc, append-nil, length-drop}
+use Rattle.std.proofs.Common.{◌≡◌, ℕ, suc, ◌+◌, ◌-◌, ◌≤◌, ◌<◌, Bool, true, false, ◌&&◌, ◌||◌, not, List, [], ◌∷◌, ◌++◌, length, take, drop, get_or, refl, sym, subst, ap, ◌∙◌, arith, Some, None, if◌then◌else◌, nat_eq, slice_range, append_assoc, append-nil, length-drop}
 use Rattle.std.proofs.lemmas.Bool.Decides.{nat_tests}
 use Rattle.std.specs.List.{list_all, prefix_len}
 use Rattle.std.specs.Str.{IsUtf8, IsCharBoundary}
 use Rattle.std.proofs.lemmas.List.{drop-drop, get_or-drop}
 use Rattle.std.proofs.lemmas.Str.{IsCharBoundary-before_ascii, IsCharBoundary-after_ascii}
 use Rattle.bt_lexer.specs.declared.token.Kind.{Kind}
-use Rattle.bt_lexer.specs.declared.token.Kind.TheVariants.{Name, Var, Int, Text}
+use Rattle.bt_lexer.specs.declared.token.Kind.TheVariants.{Text}
 use Rattle.bt_lexer.specs.Bytes.{quote, is_backslash, begins}
 use Rattle.bt_lexer.specs.Strings.{Part, is_plain, part_at, len_of, is_closed, parts_value, is_quoted, begins_tripled, ends_tripled, is_tripled}
 use Rattle.bt_lexer.specs.Kinds.{kind_of, is_name, is_var, is_number, is_text, marks, mark_in, same_text}
@@ -14,7 +14,7 @@ use Rattle.bt_lexer.proofs.KindLemmas.{and_left, and_right, false_left, nat_eq_s
 use Rattle.bt_lexer.proofs.PartLemmas.{part_fits}
 use Rattle.bt_lexer.proofs.FrontLemmas.{prefix_all, prefix_ends, prefix_within}
 use Rattle.bt_lexer.proofs.PieceLemmas.{by_tests, kind-tests}
-use Rattle.bt_lexer.proofs.ValueLemmas.{Step, part_step, plain_run, text_ended, run_stops, Quoted, quoted_is, EndsLow, escape_ends}
+use Rattle.bt_lexer.proofs.ValueLemmas.{part_step, plain_run, run_stops, quoted_is, escape_ends}
 
 -- the bytes from one place to the next stand for `value`, and the rest is closed
 pub record Leads (s : List ℕ) (at next : ℕ) (value : List ℕ) : Type 0 where
@@ -42,7 +42,8 @@ plain_leads s at n le k e =
       within = omega arith;
       cut = IsCharBoundary-before_ascii s (at + n) room (subst (λ x. x < 128) (at_place s (at + n)) stops.1);
       closed = closed;
-      same = run.same ∙ ap (λ y. take n (drop at s) ++ parts_value y 0) rest }
+      same = run.same ∙ ap (λ y. take n (drop at s) ++ parts_value y 0) rest;
+    }
 
 pub escape_leads : (s : List ℕ) (at : ℕ) (p : Part) → IsUtf8 s → at ≤ length s → is_closed (drop at s) 0 ≡ true → begins is_backslash (drop at s) ≡ true → part_at (drop at s) ≡ Some p → Leads s at (at + p.len) p.value
 escape_leads s at p utf8 le k b h =
@@ -58,7 +59,8 @@ escape_leads s at p utf8 le k b h =
       within = fits;
       cut = subst (IsCharBoundary s) back (IsCharBoundary-after_ascii s (at + p.len - 1) utf8 (omega arith) last);
       closed = subst (λ y. is_closed y 0 ≡ true) rest step.closed;
-      same = step.same ∙ ap (λ y. p.value ++ parts_value y 0) rest }
+      same = step.same ∙ ap (λ y. p.value ++ parts_value y 0) rest;
+    }
 
 pub escape_long : (s : List ℕ) (p : Part) → begins is_backslash s ≡ true → part_at s ≡ Some p → 0 < p.len
 escape_long s p b h = let low = escape_ends s p b h in let two = low.long in omega arith
@@ -72,7 +74,8 @@ after_mark s utf8 h =
       within = some;
       cut = subst (IsCharBoundary s) place (IsCharBoundary-after_ascii s 0 utf8 (omega arith) q.mark);
       closed = q.closed;
-      same = refl }
+      same = refl;
+    }
 
 abbrev is_text_kind : Kind → Bool
 is_text_kind Text = true
@@ -84,6 +87,7 @@ mark_is_no_text (m ∷ ms) all u h = go (same_text u m.0) h (λ h. mark_is_no_te
   where
     some_same : (j k : Kind) → Some j ≡ Some k → j ≡ k
     some_same j k h = cc
+
     go : (b : Bool) → (if b then Some m.1 else mark_in ms u) ≡ Some Text → (mark_in ms u ≡ Some Text → ⊥) → ⊥
     go true h ih =
         let e : m.1 ≡ Text = some_same m.1 Text h in
@@ -129,11 +133,13 @@ tail_of (c ∷ d ∷ e ∷ v) h = go (begins_tripled (c ∷ d ∷ e ∷ v)) refl
     here : (v : List ℕ) → begins_tripled (c ∷ d ∷ e ∷ v) ≡ true → nat_eq (length (d ∷ e ∷ v)) 2 ≡ true → Tail (c ∷ d ∷ e ∷ v)
     here [] t h = let q = nat_eq_same c quote (and_left (nat_eq c quote) (nat_eq d quote) (and_left (nat_eq c quote && nat_eq d quote) (nat_eq e quote) t)) in record { long = omega arith; low = omega arith }
     here (f ∷ v) t h = let x : length (d ∷ e ∷ f ∷ v) ≡ 2 = grind (arith, nat_tests) in absurd (omega arith)
+
     later : Tail (d ∷ e ∷ v) → Tail (c ∷ d ∷ e ∷ v)
     later x =
         let l = x.long in
         let i : length (c ∷ d ∷ e ∷ v) - 3 ≡ suc (length (d ∷ e ∷ v) - 3) = omega arith in
         record { long = omega arith; low = subst (λ k. get_or (c ∷ d ∷ e ∷ v) k 0 < 128) (sym i) x.low }
+
     go : (b : Bool) → begins_tripled (c ∷ d ∷ e ∷ v) ≡ b → (if b then nat_eq (length (d ∷ e ∷ v)) 2 else ends_tripled (d ∷ e ∷ v)) ≡ true → (ends_tripled (d ∷ e ∷ v) ≡ true → Tail (d ∷ e ∷ v)) → Tail (c ∷ d ∷ e ∷ v)
     go true t h ih = here v t h
     go false t h ih = later (ih h)
@@ -160,7 +166,8 @@ inner_of u utf8 h t =
     record {
       long = omega arith;
       start = subst (IsCharBoundary u) three (IsCharBoundary-after_ascii u 2 utf8 (omega arith) (third_low u t));
-      end = IsCharBoundary-before_ascii u (length u - 3) (omega arith) (subst (λ x. x < 128) (get_or-drop 3 u (length (drop 3 u) - 3) 0 ∙ ap (λ k. get_or u k 0) i) tail.low) }
+      end = IsCharBoundary-before_ascii u (length u - 3) (omega arith) (subst (λ x. x < 128) (get_or-drop 3 u (length (drop 3 u) - 3) 0 ∙ ap (λ k. get_or u k 0) i) tail.low);
+    }
 
 -- a value so far, and a piece more
 pub joined : (value run rest next all new : List ℕ) → value ++ rest ≡ all → rest ≡ run ++ next → new ≡ value ++ run → new ++ next ≡ all

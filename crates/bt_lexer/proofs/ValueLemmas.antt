@@ -1,12 +1,9 @@
 -- What the parts of a text stand for, part by part.
-use Rattle.std.proofs.Common.{◌≡◌, ℕ, zero, suc, ◌+◌, ◌-◌, ◌≤◌, ◌<◌, Bool, true, false, ◌&&◌, ◌||◌, not, List, [], ◌∷◌, ◌++◌, length, take, drop, get_or, refl, sym, subst, ap, ◌∙◌, ◌⊎◌, inl, inr, ⊎_elim, arith, Option, Some, None, if◌then◌else◌, nat_eq, nat_lt, append_assoc}
+use Rattle.std.proofs.Common.{◌≡◌, ℕ, zero, suc, ◌+◌, ◌-◌, ◌≤◌, ◌<◌, Bool, true, false, ◌&&◌, List, [], ◌∷◌, ◌++◌, length, take, drop, get_or, refl, sym, subst, ap, ◌∙◌, ◌⊎◌, inl, inr, ⊎_elim, arith, Option, Some, None, if◌then◌else◌, nat_eq, nat_lt}
 use Rattle.std.proofs.lemmas.Bool.Decides.{nat_tests}
-use Rattle.std.specs.List.{list_all, prefix_len}
-use Rattle.bt_lexer.specs.declared.token.Kind.{Kind}
-use Rattle.bt_lexer.specs.declared.token.Kind.TheVariants.{Text}
-use Rattle.bt_lexer.specs.Bytes.{quote, is_quote, backslash, is_backslash, line_feed, begins}
-use Rattle.bt_lexer.specs.Strings.{Part, is_hex, unit_at, escaped_unit_at, unicode_of, short_of, short_escape, escape_at, is_plain, part_at, len_of, value_of, is_empty, is_closed, parts_value, is_quoted, begins_tripled, ends_tripled, is_tripled, text_value}
-use Rattle.bt_lexer.specs.Kinds.{kind_of, is_text}
+use Rattle.std.specs.List.{list_all}
+use Rattle.bt_lexer.specs.Bytes.{quote, backslash, is_backslash, begins}
+use Rattle.bt_lexer.specs.Strings.{Part, is_hex, unit_at, escaped_unit_at, short_of, short_escape, escape_at, is_plain, part_at, len_of, value_of, is_empty, is_closed, parts_value, is_quoted}
 use Rattle.std.proofs.lemmas.List.{get_or-drop}
 use Rattle.bt_lexer.proofs.KindLemmas.{and_left, and_right, nat_eq_same}
 use Rattle.bt_lexer.proofs.PartLemmas.{either, Unicode, unicode_cases, short_len}
@@ -41,7 +38,9 @@ part_step (c ∷ v) p h k = go (nat_eq c quote) refl k
         let m : suc n - 1 ≡ n = omega arith in
         record {
           closed = sym (skip_closed v n) ∙ subst (λ y. is_closed v y ≡ true) m k;
-          same = ap (λ o. value_of o ++ parts_value v (len_of o - 1)) h ∙ ap (λ y. p.value ++ parts_value v (y - 1)) e ∙ ap (λ y. p.value ++ parts_value v y) m ∙ ap (λ y. p.value ++ y) (skip_value v n) }
+          same = ap (λ o. value_of o ++ parts_value v (len_of o - 1)) h ∙ ap (λ y. p.value ++ parts_value v (y - 1)) e ∙ ap (λ y. p.value ++ parts_value v y) m ∙ ap (λ y. p.value ++ y) (skip_value v n);
+        }
+
     go : (b : Bool) → nat_eq c quote ≡ b → (if b then is_empty v else nat_lt 0 (len_of (part_at (c ∷ v))) && is_closed v (len_of (part_at (c ∷ v)) - 1)) ≡ true → Step (c ∷ v) p.len p.value
     go true q k = let x : None ≡ Some p = sym (quote_no_part c v q) ∙ h in absurd (cc)
     go false q k =
@@ -94,9 +93,11 @@ text_ended (c ∷ v) k p h = go (nat_eq c quote) refl
   where
     none : part_at (c ∷ v) ≡ None
     none = stuck_part c v p h
+
     empty : (v : List ℕ) → is_empty v ≡ true → parts_value v 0 ≡ []
     empty [] e = refl
     empty (d ∷ v) e = absurd (cc)
+
     go : (b : Bool) → nat_eq c quote ≡ b → parts_value (c ∷ v) 0 ≡ []
     go false q = absurd (no_part_closed c v q none k)
     go true q =
@@ -174,6 +175,7 @@ escape_last c e x p true h = go (unicode_cases (unit_at x) (escaped_unit_at (dro
   where
     drop_four : (x : List ℕ) (i : ℕ) → get_or (drop 4 x) i 0 ≡ get_or x (4 + i) 0
     drop_four x i = get_or-drop 4 x i 0
+
     go : Unicode (unit_at x) (escaped_unit_at (drop 4 x)) p → EndsLow (c ∷ e ∷ x) p
     go u = ⊎_elim
         (λ a. last_at (c ∷ e ∷ x) p 12 11 a.3 refl (omega arith) (subst (λ y. y < 128) (drop_four x 5) (escaped_last (drop 4 x) a.1 a.2)))

@@ -1,5 +1,5 @@
 -- What every token and every fault of a text satisfies.
-use Rattle.std.specs.Prelude.{◌≡◌, ℕ, ◌<◌, ◌≤◌, Bool, true, false, not, List, [], ◌∷◌, length, drop, Some, None, slice_range}
+use Rattle.std.specs.Prelude.{◌≡◌, ℕ, ◌<◌, ◌≤◌, true, List, [], ◌∷◌, length, Some, None, slice_range}
 use Rattle.bt_lexer.specs.declared.token.Token.{Token}
 use Rattle.bt_lexer.specs.declared.token.LexFault.{LexFault}
 use Rattle.bt_lexer.specs.declared.token.LexFault.TheVariants.{Char, Text, Number, NoMemory}

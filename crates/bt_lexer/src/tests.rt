@@ -1,6 +1,6 @@
 //! What texts are read as, and the places of their faults.
 
-use crate::{LexFault, lex, place};
+use crate::{Kind, LexFault, int_value, lex, piece, place, spans_rise, text_value};
 use std::alloc::Global;
 use std::test::Fail;
 
@@ -229,5 +229,45 @@ fn a_text_of_64_kilobytes(rt: HostRuntime) -> Result<(), Fail> {
         lex(rt.alloc(), text.as_str()).err(),
         Some(LexFault::Text { at: end })
     );
+    Ok(())
+}
+
+/// What the first token of a text stands for, if it is a text or a number.
+fn first_value(alloc: Global, text: &str) -> Result<String, Fail> {
+    let Ok(tokens) = lex(alloc, text) else {
+        return Ok(String::from_str(alloc, "fault")?);
+    };
+    spans_rise();
+    let Some(token) = tokens.get(0) else {
+        return Ok(String::from_str(alloc, "nothing")?);
+    };
+    let first = piece(text, token);
+    match token.kind {
+        Kind::Text => match text_value(alloc, first) {
+            Ok(value) => Ok(String::from_str(alloc, value.as_str())?),
+            Err(_) => Ok(String::from_str(alloc, "no memory")?),
+        },
+        Kind::Int => Ok(format!(in alloc; "{}", int_value(first))?),
+        _ => Ok(String::from_str(alloc, first)?),
+    }
+}
+
+#[test]
+fn what_texts_and_numbers_stand_for(rt: HostRuntime) -> Result<(), Fail> {
+    let cases = [
+        (r#""""#, ""),
+        (r#"  "a é" "b""#, "a é"),
+        (r#""\"\\\/\b\f\n\r\tx""#, "\"\\/\u{8}\u{c}\n\r\tx"),
+        (r#""a\u00e9\u20AC\uD83d\uDe00b""#, "aé€\u{1f600}b"),
+        (r#""\u0000\uFFFF""#, "\u{0}\u{ffff}"),
+        (r#""""\n"é\u00e9""""#, r#"\n"é\u00e9"#),
+        (r#""""""" x"#, ""),
+        ("9223372036854775807", "9223372036854775807"),
+        ("007", "7"),
+        ("$x y", "$x"),
+    ];
+    for (text, want) in cases {
+        assert_eq!(rt; first_value(rt.alloc(), text)?.as_str(), want);
+    }
     Ok(())
 }

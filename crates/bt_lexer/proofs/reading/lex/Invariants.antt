@@ -1,4 +1,4 @@
-use Rattle.std.proofs.Common.{◌≡◌, ◌≤◌, ◌-◌, List, drop, length, Ok, Err}
+use Rattle.std.proofs.Common.{◌≤◌, ◌-◌, List, drop, length, Ok, Err}
 use Rattle.bt_lexer.specs.declared.token.Token.{Token}
 use Rattle.bt_lexer.specs.declared.token.LexFault.{LexFault}
 use Rattle.bt_lexer.specs.Tokens.{Reads}

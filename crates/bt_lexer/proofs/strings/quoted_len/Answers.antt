@@ -1,7 +1,6 @@
-use Rattle.std.proofs.Common.{◌≡◌, ◌<◌, ◌≤◌, ◌+◌, ◌∙◌, sym, ap, drop, length, None, arith}
+use Rattle.std.proofs.Common.{◌≤◌, ◌+◌, ◌∙◌, sym, ap, length, arith}
 use Rattle.std.proofs.lemmas.List.{drop_all}
 use Rattle.std.proofs.lemmas.Grind.{common_steps}
-use Rattle.bt_lexer.specs.Strings.{part_at, len_of}
 use Rattle.bt_lexer.proofs.StringLemmas.{quoted_end, quoted_here, quoted_stuck, quoted_step, quoted_found, quoted_not_found, part_within}
 use Rattle.bt_lexer.proofs.strings.quoted_len.Goals as goal
 

@@ -1,4 +1,4 @@
-use Rattle.std.proofs.Common.{◌≡◌, ◌∙◌, sym, true, false}
+use Rattle.std.proofs.Common.{◌≡◌, ◌∙◌, sym, false}
 use Rattle.bt_lexer.specs.Strings.{begins_tripled}
 use Rattle.bt_lexer.proofs.StringLemmas.{quoted_token, no_quoted_token, tripled_token}
 use Rattle.bt_lexer.proofs.strings.text.Goals as goal

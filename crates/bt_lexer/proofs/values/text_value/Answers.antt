@@ -1,6 +1,6 @@
-use Rattle.std.proofs.Common.{◌≡◌, ◌≤◌, ◌∙◌, sym, arith, length, true, false}
+use Rattle.std.proofs.Common.{◌≡◌, ◌∙◌, sym, arith, true, false}
 use Rattle.bt_lexer.specs.Strings.{begins_tripled}
-use Rattle.bt_lexer.proofs.TextLemmas.{Inner, inner_of, text_quoted}
+use Rattle.bt_lexer.proofs.TextLemmas.{inner_of, text_quoted}
 use Rattle.bt_lexer.proofs.values.text_value.Goals as goal
 
 pub range-requires-clause-start_le_end : goal.range-requires-clause-start_le_end

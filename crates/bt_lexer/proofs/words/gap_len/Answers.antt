@@ -1,9 +1,8 @@
-use Rattle.std.proofs.Common.{◌≡◌, ◌+◌, ◌<◌, ◌≤◌, ◌∙◌, sym, arith, drop, length, length-drop, one-add, subst}
+use Rattle.std.proofs.Common.{◌≡◌, ◌≤◌, ◌∙◌, sym, arith, drop, length, length-drop, one-add}
 use Rattle.std.proofs.lemmas.Grind.{common_steps}
 use Rattle.std.specs.List.{prefix_len}
 use Rattle.bt_lexer.specs.Bytes.{is_in_line}
-use Rattle.bt_lexer.specs.Fronts.{FindsGap}
-use Rattle.bt_lexer.proofs.FrontLemmas.{prefix_within, blank_found, comment_found, no_gap_found}
+use Rattle.bt_lexer.proofs.FrontLemmas.{prefix_within, blank_found, comment_found}
 use Rattle.bt_lexer.proofs.words.gap_len.Goals as goal
 
 pub returns-then-is_blank : goal.returns-then-is_blank
