@@ -31,7 +31,7 @@ fn quoted_value(alloc: Global, piece: &str) -> Result<Text, NoMemory>
     ensures { IfOk result (λ value. value ≡ strings.parts_value (drop 1 piece.now) 0) }
 {
     let bytes = piece.as_bytes();
-    let mut value = Text::make(alloc, "")?;
+    let mut value = Text::new(alloc);
     let mut at = 1;
     'parts: loop {
         let end = at + plain_len(from_place(bytes, at));

@@ -12,7 +12,7 @@ pub parts-init : goal.parts-init
 parts-init c =
     let s = c.as_bytes-bytes.result.now in
     let start = after_mark s c.as_bytes-bytes.ensures.utf8 (subst (λ y. is_quoted y ≡ true) (sym c.as_bytes-bytes.ensures.value) c.requires) in
-    record { within = start.within; cut = start.cut; closed = start.closed; same = rw c.in_ok-value.ensures refl }
+    record { within = start.within; cut = start.cut; closed = start.closed; same = rw c.new-value.ensures refl }
 
 pub overflow_add-end : goal.overflow_add-end
 overflow_add-end c =
