@@ -1,4 +1,12 @@
-//! The tokens of a mapping.
+//! The tokens of a mapping: `lex` gives a text's tokens or its first fault, and `place` turns an offset into a line
+//! and a column.
+//!
+//! A token is the longest text at its place that has a kind. Between tokens stand spaces, tabs, carriage returns,
+//! comments from `#` to before the next line feed, and soft line feeds. A line feed is soft, and no token, before the
+//! first and after the last token, after another line feed, after an operator and after `( [ { , : = => ->`, and
+//! before `) ] } .` and the name `else`.
+//!
+//! `piece`, `int_value` and `text_value` give the text of a token, and what a number or a text stands for.
 #![tactic(auto)]
 
 ghost use Rattle.std.specs.Prelude.{◌≡◌, ◌⊎◌, ℕ, List, Some, slice_get};

@@ -1,9 +1,9 @@
 //! Texts in quotation marks.
 
-ghost use Rattle.std.specs.Prelude.{◌≡◌, ◌≤◌, ◌<◌, ℕ, length, drop, true, ◌&&◌, IfSome};
+ghost use Rattle.std.specs.Prelude.{◌≡◌, ◌<◌, true, ◌&&◌, IfSome};
 ghost use Rattle.bt_lexer.specs.Bytes.{begins, is_quote};
 ghost use Rattle.bt_lexer.specs.Strings as strings;
-ghost use Rattle.bt_lexer.specs.Strings.{begins_tripled, is_tripled, is_quoted, unit_at, escaped_unit_at, unicode_of, escape_at, part_at, len_of, short_escape};
+ghost use Rattle.bt_lexer.specs.Strings.{begins_tripled, is_tripled, is_quoted, unit_at, escaped_unit_at, part_at, len_of, short_escape};
 ghost use Rattle.bt_lexer.specs.Fronts.{FindsFront, FindsToken, FindsEscape, FindsUnicode, FindsPair};
 
 use crate::bytes::from_place;
@@ -87,7 +87,7 @@ fn short(e: u8) -> Option<u8>
 
 /// The character of a pair of surrogates, if the second one follows the first.
 fn pair(high: u32, next: Option<u32>) -> Option<(usize, char)>
-    requires high { strings.is_high high ≡ true }
+    requires { strings.is_high high ≡ true }
     ensures { FindsPair high next result }
 {
     match next {
