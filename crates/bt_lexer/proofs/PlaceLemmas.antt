@@ -21,3 +21,6 @@ module _ (xs : List ℕ) (i : ℕ) (h : i < length xs) where
 
   pub column_grows : (get_or xs i 0 ≡ 10 → ⊥) → suffix_len is_in_line (take (i + 1) xs) ≡ 1 + suffix_len is_in_line (take i xs)
   column_grows e = suffix_len-take_yes is_in_line xs (i + 1) 0 (omega arith) (omega arith) (rw back (not_ten (get_or xs i 0) e)) ∙ ap (λ k. 1 + suffix_len is_in_line (take k xs)) back
+
+-- what `place` goes by
+pub ruleset column_steps = (column_short, column_restarts, column_grows)

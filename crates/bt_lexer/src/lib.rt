@@ -1,12 +1,13 @@
-//! The tokens of a mapping: `lex` gives a text's tokens or its first fault, and `place` turns an offset into a line
-//! and a column.
+//! The tokens of a mapping: `lex` gives a text's tokens or its first fault, and `place` turns an
+//! offset into a line and a column.
 //!
-//! A token is the longest text at its place that has a kind. Between tokens stand spaces, tabs, carriage returns,
-//! comments from `#` to before the next line feed, and soft line feeds. A line feed is soft, and no token, before the
-//! first and after the last token, after another line feed, after an operator and after `( [ { , : = => ->`, and
-//! before `) ] } .` and the name `else`.
+//! A token is the longest text at its place that has a kind. Between tokens stand spaces, tabs,
+//! carriage returns, comments from `#` to before the next line feed, and soft line feeds. A line
+//! feed is soft, and no token, before the first and after the last token, after another line feed,
+//! after an operator and after `( [ { , : = => ->`, and before `) ] } .` and the name `else`.
 //!
-//! `piece`, `int_value` and `text_value` give the text of a token, and what a number or a text stands for.
+//! `piece`, `int_value` and `text_value` give the text of a token, and what a number or a text
+//! stands for.
 #![tactic(auto)]
 
 ghost use Rattle.std.specs.Prelude.{◌≡◌, ◌⊎◌, ℕ, List, Some, slice_get};
@@ -43,10 +44,12 @@ pub fn one_reading()
     ensures never_neither { (s : List ℕ) → ((ts : List Token) × HasTokens s ts) ⊎ ((f : LexFault) × HasFault s f) }
 {}
 
-/// A law: the tokens of a text are spans of it that rise, each the longest of its kind, and a fault is at a byte of it.
+/// A law: the tokens of a text are spans of it that rise, of which no longer one has a kind, and a
+/// fault is at a byte of it.
 /// The call does nothing.
 pub fn spans_rise()
     ensures tokens { (s : List ℕ) (ts : List Token) → HasTokens s ts → AreSpans s 0 ts }
-    ensures each { (s : List ℕ) (ts : List Token) → HasTokens s ts → (i : ℕ) (t : Token) → slice_get ts i ≡ Some t → IsSpan s t }
+    ensures each { (s : List ℕ) (ts : List Token) → HasTokens s ts →
+        (i : ℕ) (t : Token) → slice_get ts i ≡ Some t → IsSpan s t }
     ensures fault { (s : List ℕ) (f : LexFault) → HasFault s f → IsFaultWithin s 0 f }
 {}

@@ -100,7 +100,8 @@ fn push(found: &mut Tokens, token: Token) -> Result<(), LexFault>
 /// What stands behind once a line feed was read.
 fn after_line(behind: Behind, line: Token) -> Behind
     requires { lines.is_line_feed line.kind ≡ true }
-    ensures { (s : List ℕ) (found us : List Token) → completed s found result us ≡ completed s found behind (line ∷ us) }
+    ensures { (s : List ℕ) (found us : List Token) →
+        completed s found result us ≡ completed s found behind (line ∷ us) }
 {
     match behind {
         Behind::Nothing => Behind::Read(Kind::Nl),
@@ -115,7 +116,9 @@ fn settle(text: &[u8], found: &mut Tokens, behind: Behind, token: &Token) -> Res
     requires order { token.now.from ≤ token.now.to }
     requires within { token.now.to ≤ length text.now }
     requires no_line { lines.is_line_feed token.now.kind ≡ false }
-    ensures ok { OnOk result ((us : List Token) → found.new.list ++ token.now ∷ lines.hardened text.now (Some token.now.kind) us ≡ completed text.now found.old.list behind (token.now ∷ us)) }
+    ensures ok { OnOk result ((us : List Token) →
+        found.new.list ++ token.now ∷ lines.hardened text.now (Some token.now.kind) us
+        ≡ completed text.now found.old.list behind (token.now ∷ us)) }
     ensures err { IfErr result (λ e. e ≡ LexFault.NoMemory) }
 {
     let Behind::Pending(line) = behind else {
@@ -136,7 +139,9 @@ pub fn keep(
 ) -> Result<Behind, LexFault>
     requires order { token.from ≤ token.to }
     requires within { token.to ≤ length text.now }
-    ensures ok { IfOk result (λ b. (us : List Token) → completed text.now found.new.list b us ≡ completed text.now found.old.list behind (token ∷ us)) }
+    ensures ok { IfOk result (λ b. (us : List Token) →
+        completed text.now found.new.list b us
+        ≡ completed text.now found.old.list behind (token ∷ us)) }
     ensures err { IfErr result (λ e. e ≡ LexFault.NoMemory) }
 {
     if is_line_feed(token.kind) {

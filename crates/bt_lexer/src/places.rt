@@ -6,7 +6,7 @@ ghost use Rattle.bt_lexer.specs.Places.{line_of, column_of};
 use crate::token::Place;
 
 /// The line and the column of the byte at `at`, or of the end of the text. It takes no memory.
-#[tactic(auto, using(crate::proofs::PlaceLemmas::column_short, crate::proofs::PlaceLemmas::column_restarts, crate::proofs::PlaceLemmas::column_grows))]
+#[tactic(auto, using(crate::proofs::PlaceLemmas::column_steps))]
 pub fn place(text: &str, at: usize) -> Place
     requires { at ≤ length text.now }
     ensures line { result.line ≡ line_of text.now at }

@@ -48,7 +48,9 @@ fn token_at(text: &[u8], at: usize, after_dot: bool) -> Result<Token, LexFault>
     requires within { at < length text.now }
     requires no_gap { NoGap (drop at text.now) }
     ensures token { IfOk result (λ t. IsNext text.now at t) }
-    ensures more { IfOk result (λ t. (r : Result (List Token) LexFault) → Reads t.to (tokens.is_dot t.kind) (drop t.to text.now) r → Reads at after_dot (drop at text.now) (before t r)) }
+    ensures more { IfOk result (λ t. (r : Result (List Token) LexFault) →
+        Reads t.to (tokens.is_dot t.kind) (drop t.to text.now) r →
+        Reads at after_dot (drop at text.now) (before t r)) }
     ensures fault { IfErr result (λ f. Reads at after_dot (drop at text.now) (Err f)) }
 {
     let rest = from_place(text, at);

@@ -44,8 +44,8 @@ fn quoted_value(alloc: Global, piece: &str) -> Result<Text, NoMemory>
     }
 }
 
-/// What a text token stands for: the bytes between three marks as they are, or the parts between two marks with
-/// each escape's character in its place.
+/// What a text token stands for: the bytes between three marks as they are, or the parts between
+/// two marks with each escape's character in its place.
 pub fn text_value(alloc: Global, piece: &str) -> Result<Text, NoMemory>
     requires { kind_of piece.now ≡ Some kinds.Text }
     ensures { IfOk result (λ value. value ≡ strings.text_value piece.now) }
