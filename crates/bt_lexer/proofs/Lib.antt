@@ -10,3 +10,4 @@ pub mod SpanLemmas
 pub mod PieceLemmas
 pub mod ValueLemmas
 pub mod TextLemmas
+pub mod Examples
