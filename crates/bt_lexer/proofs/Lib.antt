@@ -1,0 +1,13 @@
+pub mod KindLemmas
+pub mod OneReading
+pub mod SomeReading
+pub mod PlaceLemmas
+pub mod PartLemmas
+pub mod StringLemmas
+pub mod FrontLemmas
+pub mod ReadLemmas
+pub mod SpanLemmas
+pub mod PieceLemmas
+pub mod ValueLemmas
+pub mod TextLemmas
+pub mod Examples

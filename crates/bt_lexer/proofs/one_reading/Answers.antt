@@ -1,0 +1,15 @@
+use Rattle.bt_lexer.proofs.OneReading.{one_list, one_fault, never_both}
+use Rattle.bt_lexer.proofs.SomeReading.{never_neither}
+use Rattle.bt_lexer.proofs.one_reading.Goals as goal
+
+pub returns-clause-one_list : goal.returns-clause-one_list
+returns-clause-one_list c = one_list
+
+pub returns-clause-one_fault : goal.returns-clause-one_fault
+returns-clause-one_fault c = one_fault
+
+pub returns-clause-never_both : goal.returns-clause-never_both
+returns-clause-never_both c = never_both
+
+pub returns-clause-never_neither : goal.returns-clause-never_neither
+returns-clause-never_neither c = never_neither

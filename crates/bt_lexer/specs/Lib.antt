@@ -1,0 +1,9 @@
+pub mod Bytes
+pub mod Strings
+pub mod Kinds
+pub mod Tokens
+pub mod Lines
+pub mod Places
+pub mod Spans
+pub mod Fronts
+pub mod Collected
