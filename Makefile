@@ -1,10 +1,14 @@
-# make run    carries examples/copy/input through the pipeline of examples/copy/config.json
-# make test   the gate: proves every crate, tries its wrong edits, and runs its tests and the program
+# make run     carries examples/copy/input through the pipeline of examples/copy/config.json, without proving anything
+# make test    the gate, which proves every crate, tries its wrong edits and runs its tests; then the built program's own test
+# make build   proves and builds the program: crates/benthos/out/benthos
 
-.PHONY: run test
+.PHONY: run test build
 
 run:
 	cd crates/benthos && rt try -- run -c ../../examples/copy/config.json < ../../examples/copy/input
 
 test:
-	.ci/run
+	.ci/run && tests/program.sh
+
+build:
+	cd crates/benthos && rt run -- run -c ../../examples/copy/config.json < ../../examples/copy/input

@@ -6,10 +6,9 @@ mod clock;
 mod sink;
 mod source;
 mod stream;
-mod world;
-
 #[cfg(test)]
 mod tests;
+mod world;
 
 use bt_top::command::benthos;
 use bt_top::status::Status;

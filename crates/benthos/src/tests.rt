@@ -3,9 +3,8 @@ use crate::world::RealWorld;
 use bt_ports::outside::{Answerer, Clock, Sink, Source};
 use bt_ports::parts::{Cause, FileRead, Opened, Read, Verdict};
 use bt_ports::world::World;
-use std::fs;
-use std::process;
 use std::test::Fail;
+use std::{fs, process};
 
 // A path that no other test and no other run uses.
 fn path(rt: &HostRuntime, name: &str) -> Result<String, Fail> {
@@ -23,7 +22,10 @@ fn a_file_sink_is_made_and_appended_to(rt: HostRuntime) -> Result<(), Fail> {
         };
         assert!(rt; sink.put(1, 0, 0, 0, record).is_ok());
     }
-    assert_eq!(rt; fs::read_to_string(&rt, path.as_str())?.as_str(), "a;\nb;\n");
+    assert_eq!(rt;
+        fs::read_to_string(&rt, path.as_str())?.as_str(),
+        "a;\nb;\n"
+    );
     fs::remove_file(&rt, path.as_str())?;
     Ok(())
 }
@@ -51,9 +53,14 @@ fn each_answer_is_a_line(rt: HostRuntime) -> Result<(), Fail> {
     ];
     assert!(rt; answerer.answer(1, 0, &Verdict::Ack, b"").is_ok());
     for cause in causes {
-        assert!(rt; answerer.answer(7, 4, &Verdict::Refused(cause), b"a \"b\"").is_ok());
+        assert!(rt;
+            answerer
+                .answer(7, 4, &Verdict::Refused(cause), b"a \"b\"")
+                .is_ok()
+        );
     }
-    let lines = "1 0 ack\n7 4 refused sink fault leaf 2 part 1\n7 4 refused rejected part 3: \"a \\\"b\\\"\"\n7 4 refused no memory\n";
+    let lines =
+        "1 0 ack\n7 4 refused sink fault leaf 2 part 1\n7 4 refused rejected part 3: \"a \\\"b\\\"\"\n7 4 refused no memory\n";
     assert_eq!(rt; fs::read_to_string(&rt, path.as_str())?.as_str(), lines);
     fs::remove_file(&rt, path.as_str())?;
     Ok(())

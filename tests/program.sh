@@ -1,0 +1,47 @@
+#!/bin/sh
+# Runs the built program on what only a real system has: each case must end with its status and its line.
+# It wants crates/benthos/out/benthos, which the gate and `make build` leave.
+cd "$(dirname "$0")/.." || exit 1
+program=$PWD/crates/benthos/out/benthos
+[ -x "$program" ] || { echo "no $program: run make build first"; exit 1; }
+work=$(mktemp -d) || exit 1
+trap 'rm -rf "$work"' EXIT
+printf '{}' > "$work/c.json"
+printf 'a\n\nb' > "$work/input"
+failed=0
+
+# case NAME STATUS LINE COMMAND: the command's status, and its standard error's first line
+case_of() {
+    name=$1 want=$2 line=$3
+    shift 3
+    "$@" 2> "$work/err" > "$work/out"
+    got=$?
+    first=$(head -n 1 "$work/err")
+    if [ "$got" -eq "$want" ] && [ "$first" = "$line" ]; then
+        echo "ok     $name"
+    else
+        echo "FAILED $name: status $got, not $want; '$first', not '$line'"
+        failed=1
+    fi
+}
+
+run() { "$program" run -c "$1" < "$work/input"; }
+closed_output() { "$program" run -c "$work/c.json" < "$work/input" >&-; }
+full_output() { "$program" run -c "$work/c.json" < "$work/input" > /dev/full; }
+no_text() { "$program" run -c "$(printf '\377')" < "$work/input"; }
+directory_input() { "$program" run -c "$work/c.json" < "$work"; }
+
+case_of "lines are carried" 0 "taken 3 acknowledged 3 refused 0" run "$work/c.json"
+printf 'a\n\nb\n' | cmp -s - "$work/out" || { echo "FAILED the lines that were carried"; failed=1; }
+case_of "a directory in place of the configuration" 4 "file $work: cannot read" run "$work"
+case_of "a configuration that isn't there" 4 "file $work/none: cannot read" run "$work/none"
+if [ "$(id -u)" -ne 0 ]; then
+    cp "$work/c.json" "$work/secret.json" && chmod 000 "$work/secret.json"
+    case_of "an unreadable configuration" 4 "file $work/secret.json: cannot read" run "$work/secret.json"
+fi
+case_of "a closed standard output" 1 "taken 3 acknowledged 0 refused 3" closed_output
+case_of "a full standard output" 1 "taken 3 acknowledged 0 refused 3" full_output
+case_of "a word that is no text" 2 "usage: benthos run, lint, test, blobl or load" no_text
+case_of "a directory as standard input" 4 "source: read fault" directory_input
+case_of "no words" 2 "usage: benthos run, lint, test, blobl or load" "$program"
+exit $failed
