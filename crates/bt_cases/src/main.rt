@@ -11,20 +11,26 @@ mod case;
 mod told;
 
 use case::Case;
+use std::alloc::{AllocError, Global};
 use std::io;
 use told::told;
 
+// What stands after the case of the line, as text.
+fn report(alloc: Global, line: &str) -> Result<String, AllocError> {
+    let case = Case::read(line);
+    match case.run(alloc) {
+        Ok((status, world)) => {
+            let after = told(alloc, &world)?;
+            format!(in alloc; "{}: {status:?}\n{after}", case.name)
+        }
+        Err(_) => format!(in alloc; "{}: no memory\n", case.name),
+    }
+}
+
 fn main(rt: HostRuntime) -> io::Result<()> {
     for line in rt.lines(rt.alloc()) {
-        let line = line?;
-        let case = Case::read(line.as_str());
-        match case.run(rt.alloc()) {
-            Ok((status, world)) => {
-                println!(rt; "{}: {status:?}", case.name)?;
-                print!(rt; "{}", told(rt.alloc(), &world)?)?;
-            }
-            Err(_) => println!(rt; "{}: no memory", case.name)?,
-        }
+        let text = report(rt.alloc(), line?.as_str())?;
+        print!(rt; "{text}")?;
     }
     Ok(())
 }
