@@ -10,4 +10,5 @@ pub mod SpanLemmas
 pub mod PieceLemmas
 pub mod ValueLemmas
 pub mod TextLemmas
+pub mod SpellingLemmas
 pub mod Examples

@@ -8,13 +8,13 @@ use Rattle.std.proofs.lemmas.List.{get_or-drop}
 use Rattle.bt_lexer.proofs.KindLemmas.{and_left, and_right, nat_eq_same}
 use Rattle.bt_lexer.proofs.PartLemmas.{either, Unicode, unicode_cases, short_len}
 
-skip_closed : (v : List ℕ) (k : ℕ) → is_closed v k ≡ is_closed (drop k v) 0
+pub skip_closed : (v : List ℕ) (k : ℕ) → is_closed v k ≡ is_closed (drop k v) 0
 skip_closed [] zero = refl
 skip_closed [] (suc k) = refl
 skip_closed (c ∷ v) zero = refl
 skip_closed (c ∷ v) (suc k) = skip_closed v k
 
-skip_value : (v : List ℕ) (k : ℕ) → parts_value v k ≡ parts_value (drop k v) 0
+pub skip_value : (v : List ℕ) (k : ℕ) → parts_value v k ≡ parts_value (drop k v) 0
 skip_value [] zero = refl
 skip_value [] (suc k) = refl
 skip_value (c ∷ v) zero = refl
@@ -25,7 +25,7 @@ pub record Step (s : List ℕ) (n : ℕ) (value : List ℕ) : Type 0 where
   pub closed : is_closed (drop n s) 0 ≡ true
   pub same : parts_value s 0 ≡ value ++ parts_value (drop n s) 0
 
-quote_no_part : (c : ℕ) (v : List ℕ) → nat_eq c quote ≡ true → part_at (c ∷ v) ≡ None
+pub quote_no_part : (c : ℕ) (v : List ℕ) → nat_eq c quote ≡ true → part_at (c ∷ v) ≡ None
 quote_no_part c v h = ap (λ y. part_at (y ∷ v)) (nat_eq_same c quote h)
 
 pub part_step : (s : List ℕ) (p : Part) → part_at s ≡ Some p → is_closed s 0 ≡ true → Step s p.len p.value

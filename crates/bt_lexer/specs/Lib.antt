@@ -1,5 +1,6 @@
 pub mod Bytes
 pub mod Strings
+pub mod Spelling
 pub mod Kinds
 pub mod Tokens
 pub mod Lines

@@ -10,9 +10,12 @@
 //! stands for.
 #![tactic(auto)]
 
-ghost use Rattle.std.specs.Prelude.{◌≡◌, ◌⊎◌, ℕ, List, Some, slice_get};
+ghost use Rattle.std.specs.Prelude.{◌≡◌, ◌⊎◌, ℕ, List, [], ◌∷◌, ◌++◌, Some, true, slice_get};
 ghost use Rattle.bt_lexer.specs.declared.token.Token.{Token};
 ghost use Rattle.bt_lexer.specs.declared.token.LexFault.{LexFault};
+ghost use Rattle.bt_lexer.specs.Bytes.{quote};
+ghost use Rattle.bt_lexer.specs.Strings.{is_quoted, text_value};
+ghost use Rattle.bt_lexer.specs.Spelling.{Spells};
 ghost use Rattle.bt_lexer.specs.Lines.{HasTokens, HasFault};
 ghost use Rattle.bt_lexer.specs.Spans.{AreSpans, IsSpan, IsFaultWithin};
 
@@ -52,4 +55,13 @@ pub fn spans_rise()
     ensures each { (s : List ℕ) (ts : List Token) → HasTokens s ts →
         (i : ℕ) (t : Token) → slice_get ts i ≡ Some t → IsSpan s t }
     ensures fault { (s : List ℕ) (f : LexFault) → HasFault s f → IsFaultWithin s 0 f }
+{}
+
+/// A law: a text of the first form is parts between two quotation marks, as JSON spells them, and
+/// stands for what they spell; and whatever parts spell is such a text. The call does nothing.
+pub fn texts_are_spelled()
+    ensures read { (u : List ℕ) → is_quoted u ≡ true →
+        (v : List ℕ) × (u ≡ quote ∷ (v ++ quote ∷ [])) × Spells v (text_value u) }
+    ensures spelled { (v w : List ℕ) → Spells v w →
+        (is_quoted (quote ∷ (v ++ quote ∷ [])) ≡ true) × (text_value (quote ∷ (v ++ quote ∷ [])) ≡ w) }
 {}
