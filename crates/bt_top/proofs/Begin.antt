@@ -1,5 +1,5 @@
 -- Runs that stopped before they began.
-use Rattle.std.proofs.Common.{◌≡◌, ℕ, List, [], ◌∷◌, ◌++◌, take, Option, refl, ap, sym, subst, ◌∙◌, append_assoc, append-nil}
+use Rattle.std.proofs.Common.{◌≡◌, ℕ, List, [], ◌++◌, take, Option, ap, sym, subst, ◌∙◌, append_assoc, append-nil}
 use Rattle.bt_ports.specs.World.{Tale}
 use Rattle.bt_ports.specs.declared.parts.Asked.{Asked}
 use Rattle.bt_top.specs.declared.course.Course.{Course}

@@ -1,12 +1,10 @@
 -- What a run that was carried to its end gives back, by what stands of its desk and of its intake.
-use Rattle.std.proofs.Common.{◌≡◌, ℕ, ◌+◌, ◌-◌, ◌≤◌, List, [], ◌∷◌, length, map, take, drop, Option, Some, None, IsTrue, IsSome, slice_get, refl, ap, sym, subst, ◌∙◌, arith, Bool, true, false, add-zero}
-use Rattle.std.specs.Prelude.{count_by}
+use Rattle.std.proofs.Common.{◌≡◌, ℕ, List, [], ◌∷◌, length, take, drop, Option, Some, None, IsTrue, IsSome, slice_get, refl, ap, sym, subst, ◌∙◌, arith, Bool, true, false, add-zero}
 use Rattle.std.specs.List.{list_all}
 use Rattle.bt_ports.specs.declared.outside.Source as Source
 use Rattle.bt_ports.specs.declared.outside.Sink as Sink
 use Rattle.bt_ports.specs.declared.outside.Answerer as Answerer
 use Rattle.bt_ports.specs.declared.outside.Intake as Intake
-use Rattle.bt_ports.specs.declared.parts.Ends.{Ends}
 use Rattle.bt_ports.specs.declared.parts.Item.{Item}
 use Rattle.bt_ports.specs.declared.parts.Named.{Named}
 use Rattle.bt_ports.specs.declared.parts.Next.{Next}
@@ -18,8 +16,8 @@ use Rattle.bt_desk.specs.Stands.{StandsWith, report_of, ending_of, TakesWhole, F
 use Rattle.bt_desk.specs.declared.report.Ending.{Ending}
 use Rattle.bt_desk.specs.declared.report.Ending.TheVariants as ending
 use Rattle.bt_desk.specs.declared.report.Report.{Report}
-use Rattle.bt_intake.specs.Answers.{Standing, Says, StopSays}
-use Rattle.bt_intake.specs.Lines.{batches, stop, SourceBytes}
+use Rattle.bt_intake.specs.Answers.{Standing, StopSays}
+use Rattle.bt_intake.specs.Lines.{batches, SourceBytes}
 use Rattle.bt_intake.specs.Sources.{openings, inputs, all_tell, told, taken_count, fault_count}
 use Rattle.bt_intake.specs.View.{LineView}
 use Rattle.bt_top.specs.Begin.{Begun}

@@ -1,5 +1,5 @@
 -- Steps of a run.
-use Rattle.std.proofs.Common.{◌≡◌, ℕ, List, Some, IsTrue, slice_get, ap, ◌∙◌, sym}
+use Rattle.std.proofs.Common.{List, slice_get, ap, ◌∙◌, sym}
 use Rattle.bt_ports.specs.declared.outside.Intake as Intake
 use Rattle.bt_ports.specs.declared.outside.Sink as Sink
 use Rattle.bt_ports.specs.declared.outside.Answerer as Answerer

@@ -1,26 +1,17 @@
 -- A run as a whole.
-use Rattle.std.proofs.Common.{◌≡◌, ℕ, zero, suc, ◌+◌, ◌<◌, ◌↔◌, List, Option, Some, None, IsTrue, IsSome, length, ap, sym, subst, ◌∙◌, refl, arith, Bool, true, false, cond, ltb}
-use Rattle.std.proofs.lemmas.Bool.{ltb-true, ltb-false}
+use Rattle.std.proofs.Common.{◌≡◌, ℕ, List, Option, ap, ◌∙◌, refl, arith}
 use Rattle.bt_ports.specs.World.{Tale, once_more}
 use Rattle.bt_ports.specs.declared.outside.Source as Source
 use Rattle.bt_ports.specs.declared.outside.Sink as Sink
 use Rattle.bt_ports.specs.declared.outside.Answerer as Answerer
 use Rattle.bt_ports.specs.declared.parts.Ends.{Ends}
 use Rattle.bt_desk.specs.DeskView.{DeskView}
-use Rattle.bt_desk.specs.declared.report.Ending.{Ending}
-use Rattle.bt_desk.specs.declared.report.Ending.TheVariants as ending
 use Rattle.bt_desk.specs.declared.report.Report.{Report}
 use Rattle.bt_intake.specs.View.{LineView}
 use Rattle.bt_top.specs.Begin.{Started}
-use Rattle.bt_top.specs.Kept.{Completes, Keeps}
-use Rattle.bt_top.specs.Run.{LeavesOthers}
-use Rattle.bt_top.specs.Statuses.{ending_status, refusal_status, run_status}
-use Rattle.bt_top.specs.Went.{Went, KeepsBy, RefusedARecord}
-use Rattle.bt_top.specs.declared.course.Course.{Course}
+use Rattle.bt_top.specs.Kept.{Completes}
+use Rattle.bt_top.specs.Went.{Went}
 use Rattle.bt_top.specs.declared.course.Course.TheVariants as course
-use Rattle.bt_top.specs.declared.status.Status.{Status}
-use Rattle.bt_top.specs.declared.status.Status.TheVariants as statuses
-use Rattle.bt_top.proofs.Begin.{leaves-then}
 
 module _ {S K A C I : Type 0} (gs : Source.Ghosts S) (gk : Sink.Ghosts K) (ga : Answerer.Ghosts A) where
   -- a run that was started, completed and reported

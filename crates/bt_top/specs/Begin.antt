@@ -1,5 +1,5 @@
 -- What stands where a run stopped before it began, and where it is ready to begin.
-use Rattle.std.specs.Prelude.{◌≡◌, ℕ, ◌+◌, List, [], ◌∷◌, ◌++◌, length, Option, Some, None, IsTrue}
+use Rattle.std.specs.Prelude.{◌≡◌, ℕ, ◌+◌, List, [], ◌∷◌, ◌++◌, length, Option, None, IsTrue}
 use Rattle.bt_ports.specs.World.{Tale, once_more}
 use Rattle.bt_ports.specs.declared.parts.Asked.{Asked}
 use Rattle.bt_ports.specs.declared.parts.Ends.{Ends}

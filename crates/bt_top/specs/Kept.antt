@@ -5,14 +5,13 @@ use Rattle.bt_ports.specs.declared.outside.Source as Source
 use Rattle.bt_ports.specs.declared.outside.Sink as Sink
 use Rattle.bt_ports.specs.declared.outside.Answerer as Answerer
 use Rattle.bt_ports.specs.declared.parts.Ends.{Ends}
-use Rattle.bt_ports.specs.declared.parts.Item.{Item}
 use Rattle.bt_ports.specs.declared.parts.Next.TheVariants as next
 use Rattle.bt_desk.specs.History.{Settled, numbered, items_of, accepted_records, refused_records, answers, was_refused, has_failed_answer, records_of, acks_of}
 use Rattle.bt_desk.specs.Stands.{report_of}
 use Rattle.bt_desk.specs.declared.report.Ending.{Ending}
 use Rattle.bt_desk.specs.declared.report.Ending.TheVariants as ending
 use Rattle.bt_desk.specs.declared.report.Report.{Report}
-use Rattle.bt_intake.specs.Lines.{batches, stop, SourceBytes}
+use Rattle.bt_intake.specs.Lines.{batches, stop}
 use Rattle.bt_desk.specs.DeskView.{DeskView}
 use Rattle.bt_intake.specs.View.{LineView}
 use Rattle.bt_top.specs.Begin.{Begun}

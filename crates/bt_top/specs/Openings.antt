@@ -1,5 +1,5 @@
 -- Which calls of the world a run makes, and in which order.
-use Rattle.std.specs.Prelude.{◌≡◌, ℕ, true, false, List, [], ◌∷◌, ◌++◌, take, Option, Some, None, codes}
+use Rattle.std.specs.Prelude.{◌≡◌, ℕ, true, false, List, [], ◌∷◌, take, Option, Some, None, codes}
 use Rattle.bt_ports.specs.declared.parts.What.{What}
 use Rattle.bt_ports.specs.declared.parts.What.TheVariants.{File, Source, Sink, Answers}
 use Rattle.bt_ports.specs.declared.parts.Asked.{Asked}

@@ -1,12 +1,8 @@
 -- What stands after a run, and why it went so.
-use Rattle.std.specs.Prelude.{◌≡◌, ℕ, ◌+◌, ◌<◌, ◌≤◌, List, [], ◌∷◌, ◌++◌, length, map, Option, Some, None, IsTrue, Bool, true, false}
+use Rattle.std.specs.Prelude.{◌≡◌, ℕ, ◌≤◌, List, length, Option, Some, Bool, true, false}
 use Rattle.bt_ports.specs.Faults.{Rose}
-use Rattle.bt_ports.specs.World.{Tale, once_more}
-use Rattle.bt_ports.specs.declared.parts.Asked.{Asked}
-use Rattle.bt_ports.specs.declared.parts.Ends.{Ends}
+use Rattle.bt_ports.specs.World.{Tale}
 use Rattle.bt_top.specs.Form.{IsEmptyObject}
-use Rattle.bt_top.specs.Lines.{run_lines}
-use Rattle.bt_top.specs.Openings.{IsPartOf}
 use Rattle.bt_top.specs.declared.course.Course.{Course}
 use Rattle.bt_top.specs.declared.course.Course.TheVariants as course
 

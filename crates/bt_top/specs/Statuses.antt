@@ -2,7 +2,6 @@
 use Rattle.std.specs.Prelude.{ℕ, nat_lt, if◌then◌else◌, Option, Some, None}
 use Rattle.bt_desk.specs.declared.report.Ending.{Ending}
 use Rattle.bt_desk.specs.declared.report.Ending.TheVariants as ending
-use Rattle.bt_desk.specs.declared.report.Report.{Report}
 use Rattle.bt_top.specs.declared.course.Course.{Course}
 use Rattle.bt_top.specs.declared.course.Course.TheVariants as course
 use Rattle.bt_top.specs.declared.status.Status.{Status}

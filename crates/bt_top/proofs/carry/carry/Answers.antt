@@ -1,4 +1,4 @@
-use Rattle.std.proofs.Common.{◌≡◌, ap, ◌∙◌}
+use Rattle.std.proofs.Common.{ap, ◌∙◌}
 use Rattle.bt_top.proofs.Carrying.{same_run-then, same_places-then}
 use Rattle.bt_top.proofs.carry.carry.Goals as goal
 

@@ -1,4 +1,3 @@
-use Rattle.std.proofs.Common.{refl}
 use Rattle.std.proofs.lemmas.Result.{err_from_is_err_and}
 use Rattle.bt_top.proofs.Begin.{stops-behind}
 use Rattle.bt_top.proofs.openings.open_all.Goals as goal

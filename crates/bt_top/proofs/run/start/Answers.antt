@@ -1,9 +1,9 @@
-use Rattle.std.proofs.Common.{◌≡◌, ℕ, ◌+◌, List, [], ◌∷◌, ◌++◌, length, refl, ap, sym, subst, ◌∙◌, arith, length-append, IsTrue}
+use Rattle.std.proofs.Common.{◌≡◌, ℕ, ◌+◌, List, [], ◌∷◌, ◌++◌, length, refl, ap, subst, ◌∙◌, length-append}
 use Rattle.std.proofs.lemmas.Result.{err_from_is_err_and}
 use Rattle.bt_ports.specs.World.{once_more}
 use Rattle.bt_ports.specs.declared.parts.Asked.{Asked}
 use Rattle.bt_top.specs.Begin.{ArePlaced}
-use Rattle.bt_top.proofs.Begin.{asks-then, leaves-then, memory-stops, stops-behind, stops-behind-clock}
+use Rattle.bt_top.proofs.Begin.{asks-then, memory-stops, stops-behind, stops-behind-clock}
 use Rattle.bt_top.proofs.run.start.Goals as goal
 
 -- one call more

@@ -1,4 +1,4 @@
-use Rattle.std.proofs.Common.{rules, arith, ◌≡◌, ◌≤◌, ◌<◌, ℕ, List, [], ◌∷◌, length, get_or, map, refl, ap, sym, ◌∙◌, string_bytes, codes}
+use Rattle.std.proofs.Common.{rules, arith, ◌≡◌, ◌≤◌, ◌<◌, ℕ, List, [], ◌∷◌, length, get_or, map, string_bytes, codes}
 use Rattle.bt_top.proofs.words.run_file.Goals as goal
 
 -- the texts of three words
