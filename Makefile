@@ -5,7 +5,7 @@
 .PHONY: run test build
 
 run:
-	cd crates/benthos && rt try -- run -c ../../examples/copy/config.json < ../../examples/copy/input
+	cd crates/benthos && rt try --data config.json=../../examples/copy/config.json -- run -c config.json < ../../examples/copy/input
 
 test:
 	.ci/run && tests/program.sh
