@@ -9,7 +9,7 @@ use crate::memory::source::MemSource;
 use crate::memory::world::{Failing, File, MemWorld, SinkCall};
 use crate::origins::Origins;
 use crate::outside::{Answerer, Clock, Printer, Sink, Source};
-use crate::parts::{Cause, FileRead, Opened, Read, Records, Verdict, What};
+use crate::parts::{Asked, AskedList, Cause, Ends, FileRead, Opened, Read, Records, Verdict, What};
 use crate::sequence::Sequence;
 use crate::text::Text;
 use crate::world::World;
@@ -227,6 +227,103 @@ fn a_world_gives_its_standard_input_once(rt: HostRuntime) -> Result<(), Fail> {
         (world.take_clock().now(), world.take_clock().now()),
         (9, 0)
     );
+    Ok(())
+}
+
+// Whether the first put at a sink that was opened is accepted.
+fn first_put(opened: Opened<MemSink>) -> Option<bool> {
+    match opened {
+        Opened::Got(mut sink) => Some(sink.put(1, 0, 0, 0, b"a").is_ok()),
+        Opened::Failed | Opened::NoMemory => None,
+    }
+}
+
+// Whether the first answer at an answerer that was opened is taken.
+fn first_answer(opened: Opened<MemAnswerer>) -> Option<bool> {
+    match opened {
+        Opened::Got(mut answerer) => Some(answerer.answer(1, 0, &Verdict::Ack, b"").is_ok()),
+        Opened::Failed | Opened::NoMemory => None,
+    }
+}
+
+#[test]
+fn a_world_opens_sinks_and_answers_that_fail_where_it_is_told(rt: HostRuntime) -> Result<(), Fail> {
+    let mut world = world(rt.alloc())?;
+    assert_eq!(rt; first_put(world.open_sink("file:b", b"")), Some(false));
+    assert_eq!(rt; first_put(world.open_sink("stdout", b"")), None);
+    assert_eq!(rt; first_put(world.open_sink("stdout", b"")), Some(true));
+    assert_eq!(rt; first_answer(world.open_answers(None)), Some(false));
+    Ok(())
+}
+
+// The name and the closing bytes of the call at place `i`, where it has both.
+fn asked_at(calls: &AskedList, i: usize) -> Option<(&str, &[u8])> {
+    match calls.get(i) {
+        Some(
+            Asked {
+                name: Some(name),
+                end: Some(end),
+                ..
+            },
+        ) => Some((name.as_str(), end.as_slice())),
+        _ => None,
+    }
+}
+
+#[test]
+fn a_world_lists_its_openings_with_their_names_and_ends(rt: HostRuntime) -> Result<(), Fail> {
+    let mut world = world(rt.alloc())?;
+    let _ = world.open_sink("file:b", b"\n");
+    assert_eq!(rt;
+        asked_at(world.calls(), 0),
+        Some(("file:b", b"\n".as_slice()))
+    );
+    Ok(())
+}
+
+// Ends of a run in memory, with no source and no sink, whose clock says `moment`.
+fn ends(
+    alloc: Global,
+    moment: u64,
+) -> Result<Ends<MemSource, MemSink, MemAnswerer, MemClock>, NoMemory> {
+    Ok(Ends {
+        sources: Sequence::new(alloc),
+        sinks: Sequence::new(alloc),
+        answerer: MemAnswerer::make(alloc, Sequence::new(alloc)),
+        clock: MemClock::make(list(alloc, &[moment])?),
+    })
+}
+
+// What the clock of these ends was given.
+fn moment(ends: Option<&Ends<MemSource, MemSink, MemAnswerer, MemClock>>) -> Option<u64> {
+    match ends {
+        Some(ends) => ends.clock.readings().get(0).copied(),
+        None => None,
+    }
+}
+
+#[test]
+fn a_world_shows_the_ends_that_were_kept(rt: HostRuntime) -> Result<(), Fail> {
+    let mut world = world(rt.alloc())?;
+    world.keep(ends(rt.alloc(), 5)?);
+    assert_eq!(rt; moment(world.kept()), Some(5));
+    Ok(())
+}
+
+#[test]
+fn a_world_shows_the_ends_in_memory_that_were_kept(rt: HostRuntime) -> Result<(), Fail> {
+    let mut world = world(rt.alloc())?;
+    world.keep_load(ends(rt.alloc(), 6)?);
+    assert_eq!(rt; moment(world.kept_load()), Some(6));
+    Ok(())
+}
+
+#[test]
+fn a_world_shows_the_sources_that_were_kept(rt: HostRuntime) -> Result<(), Fail> {
+    let mut world = world(rt.alloc())?;
+    assert!(rt; world.kept_input().is_none());
+    world.keep_input(Sequence::new(rt.alloc()));
+    assert!(rt; world.kept_input().is_some());
     Ok(())
 }
 
