@@ -1,6 +1,6 @@
 -- What stands behind a place, read off its link.
-use Rattle.std.proofs.Common.{◌≡◌, ◌≢◌, ℕ, zero, suc, ◌+◌, ◌-◌, ◌<◌, ◌≤◌, ◌^◌, Bool, true, false, cond, eqb, ltb, List, [], ◌∷◌, ◌++◌, Option, Some, None, is_some, length, map, get_or, set, ◌⊎◌, inl, inr, arith, zero-add, refl, sym, ap, ◌∙◌, subst, eq-eqb, get_or-set_same, get_or-set_other, length-set}
-use Rattle.std.proofs.lemmas.Bool.{eqb-true, ltb-true}
+use Rattle.std.proofs.Common.{◌≡◌, ◌≢◌, ℕ, zero, suc, ◌+◌, ◌<◌, ◌≤◌, Bool, true, false, cond, eqb, ltb, List, [], ◌∷◌, Option, Some, None, is_some, length, get_or, ◌⊎◌, inl, inr, arith, zero-add, refl, sym, ap, ◌∙◌, subst, eq-eqb}
+use Rattle.std.proofs.lemmas.Bool.{eqb-true}
 use Rattle.std.proofs.lemmas.Bool.Decides.{nat_tests}
 use Rattle.std.proofs.lemmas.List.{get_or_default}
 use Rattle.bt_chains.specs.declared.Chain.{Chain}
@@ -34,10 +34,10 @@ behind_walk zero ns h x e b = refl
 behind_walk (suc l) ns h x e b =
     let i = behind_walk l ns (get_or ns h 0) x e (λ y s. b y (omega arith)) in
     elim (decide x h (eqb x h) refl) [
-      inl w ↦
-        let P : ℕ → Type 0 = λ y. behind y (walk (suc l) ns h) ≡ seen (times y (walk (suc l) ns h)) (onward (get_or ns y 0)) in
-        subst P (sym w.1) (rw (eq-eqb h h refl) (front_onward l ns h e b))
-    | inr w ↦ rw w.0 (rw zero-add i)
+      | inl w ↦
+          let P : ℕ → Type 0 = λ y. behind y (walk (suc l) ns h) ≡ seen (times y (walk (suc l) ns h)) (onward (get_or ns y 0)) in
+          subst P (sym w.1) (rw (eq-eqb h h refl) (front_onward l ns h e b))
+      | inr w ↦ rw w.0 (rw zero-add i)
     ]
 
 nowhere : (b : Bool) → cond {A = Option ℕ} b None None ≡ None

@@ -1,11 +1,10 @@
 -- A pool whose places are all free.
-use Rattle.std.proofs.Common.{◌≡◌, ◌≢◌, ℕ, zero, suc, ◌+◌, ◌-◌, ◌<◌, ◌≤◌, ◌^◌, Bool, true, false, cond, eqb, ltb, List, [], ◌∷◌, ◌++◌, Option, Some, None, length, map, get_or, set, replicate, ◌⊎◌, inl, inr, arith, refl, sym, ap, ◌∙◌, subst, eq-eqb, get_or-set_same, get_or-set_other, length-set, add_assoc}
-use Rattle.std.proofs.lemmas.Bool.{eqb-true, ltb-true}
+use Rattle.std.proofs.Common.{◌≡◌, ℕ, zero, suc, ◌+◌, ◌<◌, ◌^◌, cond, ltb, List, [], ◌∷◌, Option, None, length, get_or, replicate, arith, refl, sym, ap, ◌∙◌}
 use Rattle.std.proofs.lemmas.Bool.Decides.{nat_tests}
 use Rattle.std.proofs.lemmas.List.{length-replicate, get_or-replicate}
 use Rattle.bt_chains.specs.declared.Chain.{Chain}
 use Rattle.bt_chains.specs.declared.Entry.{Entry}
-use Rattle.bt_chains.specs.Links.{walk, beyond, places, held, no_place, IsEnded, IsLinked}
+use Rattle.bt_chains.specs.Links.{walk, places, held, no_place, IsLinked}
 use Rattle.bt_chains.specs.Places.{times, times_all, occupied, numbers_from}
 
 abbrev pub empty_chain : Chain

@@ -1,12 +1,11 @@
 -- A pool after one entry came or left.
-use Rattle.std.proofs.Common.{◌≡◌, ◌≢◌, ℕ, zero, suc, ◌+◌, ◌-◌, ◌<◌, ◌≤◌, ◌^◌, Bool, true, false, cond, eqb, ltb, List, [], ◌∷◌, ◌++◌, Option, Some, None, length, map, get_or, set, IsNone, is_some, rules, ◌⊎◌, inl, inr, arith, refl, sym, ap, ◌∙◌, subst, eq-eqb, add-one, get_or-set_same, get_or-set_other, length-set}
-use Rattle.std.proofs.lemmas.Bool.{eqb-true, ltb-true}
+use Rattle.std.proofs.Common.{◌≡◌, ◌≢◌, ℕ, zero, suc, ◌+◌, ◌-◌, ◌<◌, ◌≤◌, ◌^◌, Bool, false, cond, eqb, ltb, List, [], ◌∷◌, ◌++◌, Option, Some, None, length, get_or, set, IsNone, is_some, rules, inl, inr, arith, refl, sym, ap, ◌∙◌, subst, eq-eqb, add-one, get_or-set_same, get_or-set_other, length-set}
 use Rattle.std.proofs.lemmas.Bool.Decides.{nat_tests}
 use Rattle.std.proofs.lemmas.List.{get_or_default, map-set, get_or-map, length-map}
 use Rattle.bt_chains.specs.declared.Chain.{Chain}
 use Rattle.bt_chains.specs.declared.Entry.{Entry}
 use Rattle.bt_chains.specs.Links.{walk, beyond, places, held, no_place, joined, grown, IsEnded, IsLinked}
-use Rattle.bt_chains.specs.Places.{front_of, front_entry, times, times_all, total_length, occupied, last_or, IsSound}
+use Rattle.bt_chains.specs.Places.{front_of, front_entry, times, times_all, occupied, last_or, IsSound}
 use Rattle.bt_chains.proofs.Afters.{decide, within}
 use Rattle.bt_chains.proofs.Walks.{walk_set, times_last, beyond_set, places_set, times_all_set, times_in, times_two, places_set_but, held_set, length_walk, length_places, extended, last_push, times_push}
 
@@ -18,19 +17,18 @@ sound es ns cs f fl linked =
       counted = let a = length_places ns cs in let b = length_walk fl ns f in let c = linked.counted in omega arith;
     }
 
-
 cleared : (es : List (Option Entry)) (p x : ℕ) → p < length es → occupied (get_or es p None) ≡ 1 → occupied (get_or (set es p None) x None) + cond (eqb x p) 1 0 ≡ occupied (get_or es x None)
 cleared es p x h o =
     elim (decide x p (eqb x p) refl) [
-      inl w ↦ rw (w.0, w.1, get_or-set_same es p None None h) (sym o)
-    | inr w ↦ rw (w.0, get_or-set_other es p x None None w.1) (omega arith)
+      | inl w ↦ rw (w.0, w.1, get_or-set_same es p None None h) (sym o)
+      | inr w ↦ rw (w.0, get_or-set_other es p x None None w.1) (omega arith)
     ]
 
 filled : (es : List (Option Entry)) (p x : ℕ) (e : Entry) → p < length es → occupied (get_or es p None) ≡ 0 → occupied (get_or (set es p (Some e)) x None) ≡ occupied (get_or es x None) + cond (eqb x p) 1 0
 filled es p x e h o =
     elim (decide x p (eqb x p) refl) [
-      inl w ↦ rw (w.0, w.1, get_or-set_same es p (Some e) None h, o) refl
-    | inr w ↦ rw (w.0, get_or-set_other es p x (Some e) None w.1) (omega arith)
+      | inl w ↦ rw (w.0, w.1, get_or-set_same es p (Some e) None h, o) refl
+      | inr w ↦ rw (w.0, get_or-set_other es p x (Some e) None w.1) (omega arith)
     ]
 
 last_tail : (ys : List ℕ) (x d : ℕ) → last_or ys x ≡ d → last_or ys d ≡ d
@@ -49,13 +47,13 @@ ends_but : (ns : List ℕ) (cs : List Chain) (k p x : ℕ) (b c : Chain) → ((j
     → times_all p (places ns cs) ≡ times p (walk b.len ns b.first) → IsEnded (set ns p x) c → (j : ℕ) (d : Chain) → j < length (set cs k c) → IsEnded (set ns p x) (get_or (set cs k c) j d)
 ends_but ns cs k p x b c ends h at e ended j d g =
     elim (decide j k (eqb j k) refl) [
-      inl w ↦ rw (w.1, get_or-set_same cs k c d h) ended
-    | inr w ↦
-        let g' : j < length cs = rw (length-set cs k c) at g in
-        let mine : get_or cs k d ≡ b = get_or_default cs k d b h ∙ at in
-        let two = times_two p ns cs j k d w.1 g' h in
-        let same : times p (walk (get_or cs k d).len ns (get_or cs k d).first) ≡ times p (walk b.len ns b.first) = ap (λ (a : Chain). times p (walk a.len ns a.first)) mine in
-        rw (get_or-set_other cs k j c d w.1) (ended_set ns (get_or cs j d) p x (ends j d g') (omega arith))
+      | inl w ↦ rw (w.1, get_or-set_same cs k c d h) ended
+      | inr w ↦
+          let g' : j < length cs = rw (length-set cs k c) at g in
+          let mine : get_or cs k d ≡ b = get_or_default cs k d b h ∙ at in
+          let two = times_two p ns cs j k d w.1 g' h in
+          let same : times p (walk (get_or cs k d).len ns (get_or cs k d).first) ≡ times p (walk b.len ns b.first) = ap (λ (a : Chain). times p (walk a.len ns a.first)) mine in
+          rw (get_or-set_other cs k j c d w.1) (ended_set ns (get_or cs j d) p x (ends j d g') (omega arith))
     ]
 
 -- the list of chain k
@@ -106,7 +104,7 @@ taken es ns cs f fl k b l linked h at n =
     let sole : times_all b.first (places ns cs) ≡ times b.first (walk b.len ns b.first) = omega arith in
     let same : times b.first (walk (get_or cs k b).len ns (get_or cs k b).first) ≡ times b.first (walk b.len ns b.first) = ap (λ (a : Chain). times b.first (walk a.len ns a.first)) at in
     let chains : places (set ns b.first f) (set cs k (shrunk ns b l)) ≡ set (places ns cs) k (walk l ns (get_or ns b.first 0))
-          = places_set_but ns cs k b.first f b (shrunk ns b l) h (omega arith) ∙ ap (λ zs. set (places ns cs) k zs) rest in
+    = places_set_but ns cs k b.first f b (shrunk ns b l) h (omega arith) ∙ ap (λ zs. set (places ns cs) k zs) rest in
     let ended : IsEnded ns b = let e = linked.ends k b h in rw at at e in
     let past : beyond l (set ns b.first f) (get_or ns b.first 0) ≡ no_place = beyond_set l ns (get_or ns b.first 0) b.first f (omega arith) ∙ ap (λ m. beyond m ns b.first) (sym n) ∙ ended.past in
     let tail : last_or (walk l ns (get_or ns b.first 0)) b.first ≡ b.last = ap (λ zs. last_or zs b.last) (sym whole) ∙ ended.last in
@@ -120,18 +118,18 @@ taken es ns cs f fl k b l linked h at n =
       free = free;
       linked = record {
         chained = λ x.
-          let a = ap (times_all x) chains in
-          let t = times_all_set x (places ns cs) k (walk l ns (get_or ns b.first 0)) (rw (length-map cs (λ (d : Chain). walk d.len ns d.first)) h) in
-          let w = ap (times x) was in
-          let o = cleared es b.first x inside stands in
-          let i = linked.chained x in
-          omega arith;
+            let a = ap (times_all x) chains in
+            let t = times_all_set x (places ns cs) k (walk l ns (get_or ns b.first 0)) (rw (length-map cs (λ (d : Chain). walk d.len ns d.first)) h) in
+            let w = ap (times x) was in
+            let o = cleared es b.first x inside stands in
+            let i = linked.chained x in
+            omega arith;
         vacant = λ x.
-          let a = ap (times x) free in
-          let o = cleared es b.first x inside stands in
-          let i = linked.vacant x in
-          let s = ap {B = ℕ} (λ m. cond (ltb x m) 1 0) size in
-          omega arith;
+            let a = ap (times x) free in
+            let o = cleared es b.first x inside stands in
+            let i = linked.vacant x in
+            let s = ap {B = ℕ} (λ m. cond (ltb x m) 1 0) size in
+            omega arith;
         counted = let t = held_set cs k b (shrunk ns b l) h in let u = ap (λ (a : Chain). a.len) at in let i = linked.counted in omega arith;
         ends = ends_but ns cs k b.first f b (shrunk ns b l) linked.ends h at sole (record { past = past; last = last });
         linked = let s = length-set ns b.first f in let i = linked.linked in omega arith;
@@ -154,10 +152,10 @@ join_empty ns cs k bf bl f ends h link =
       size = refl;
       chains = map-set (λ (d : Chain). walk d.len ns d.first) cs k c;
       ends = λ j d g.
-        elim (decide j k (eqb j k) refl) [
-          inl w ↦ rw (w.1, get_or-set_same cs k c d h) (record { past = link; last = refl })
-        | inr w ↦ rw (get_or-set_other cs k j c d w.1) (ends j d (rw (length-set cs k c) at g))
-        ];
+          elim (decide j k (eqb j k) refl) [
+            | inl w ↦ rw (w.1, get_or-set_same cs k c d h) (record { past = link; last = refl })
+            | inr w ↦ rw (get_or-set_other cs k j c d w.1) (ends j d (rw (length-set cs k c) at g))
+          ];
       still = λ m t e. refl;
     }
 
@@ -219,21 +217,21 @@ placed es ns cs f m k b e linked h at =
     let sizes = linked.linked in
     let once : (y : ℕ) → times_all y (places (set ns f no_place) cs) ≤ 1 = λ y. let i = ap (times_all y) s1 in let j = linked.chained y in let o = one_at_most (get_or es y None) in omega arith in
     let ends : (j : ℕ) (d : Chain) → j < length cs → IsEnded (set ns f no_place) (get_or cs j d)
-          = λ j d g. let t = times_in f ns cs j d g in ended_set ns (get_or cs j d) f no_place (linked.ends j d g) (omega arith) in
+    = λ j d g. let t = times_in f ns cs j d g in ended_set ns (get_or cs j d) f no_place (linked.ends j d g) (omega arith) in
     let bounds : (y : ℕ) → 1 ≤ times_all y (places (set ns f no_place) cs) → y < length (set ns f no_place)
-          = λ y g. let i = ap (times_all y) s1 in let j = within es ns cs f (suc m) y linked (omega arith) in omega arith in
+    = λ y g. let i = ap (times_all y) s1 in let j = within es ns cs f (suc m) y linked (omega arith) in omega arith in
     let absent1 : times_all f (places (set ns f no_place) cs) ≡ 0 = ap (times_all f) s1 ∙ absent in
     let link : get_or (set ns f no_place) f 0 ≡ no_place = get_or-set_same ns f no_place 0 (omega arith) in
     let r = join (set ns f no_place) cs k b.first b.last b.len f ends h at once bounds absent1 link in
     let mine = times_chain f ns cs k b h at in
     let alone : (y : ℕ) → times y (walk m (set ns f no_place) (get_or ns f 0)) + times_all y (places (set ns f no_place) cs) ≤ 1
-          = λ y. let i = ap (times_all y) s1 in let j = ap (times y) w1 in let a = linked.chained y in let v = linked.vacant y in
-              let t : cond (ltb y (length es)) 1 0 ≤ 1 = grind (arith, nat_tests) in omega arith in
+    = λ y. let i = ap (times_all y) s1 in let j = ap (times y) w1 in let a = linked.chained y in let v = linked.vacant y in
+    let t : cond (ltb y (length es)) 1 0 ≤ 1 = grind (arith, nat_tests) in omega arith in
     let frees : walk m (joined b f (set ns f no_place)) (get_or ns f 0) ≡ walk m ns (get_or ns f 0) = r.still m (get_or ns f 0) alone ∙ w1 in
     let same : walk b.len (set ns f no_place) b.first ≡ walk b.len ns b.first = walk_set b.len ns b.first f no_place (omega arith) in
     let list : walk b.len (set ns f no_place) b.first ≡ get_or (places ns cs) k [] = same ∙ sym (chain_is ns cs k b h at) in
     let chains : places (joined b f (set ns f no_place)) (set cs k (grown b f)) ≡ set (places ns cs) k (get_or (places ns cs) k [] ++ f ∷ [])
-          = r.chains ∙ ap (λ yss. set yss k (walk b.len (set ns f no_place) b.first ++ f ∷ [])) s1 ∙ ap (λ ys. set (places ns cs) k (ys ++ f ∷ [])) list in
+    = r.chains ∙ ap (λ yss. set yss k (walk b.len (set ns f no_place) b.first ++ f ∷ [])) s1 ∙ ap (λ ys. set (places ns cs) k (ys ++ f ∷ [])) list in
     let size = length-set es f (Some e) in
     let z2 = r.size in
     record {
@@ -242,18 +240,18 @@ placed es ns cs f m k b e linked h at =
       chains = chains;
       linked = record {
         chained = λ x.
-          let a = ap (times_all x) chains in
-          let t = times_all_set x (places ns cs) k (get_or (places ns cs) k [] ++ f ∷ []) (rw (length-map cs (λ (d : Chain). walk d.len ns d.first)) h) in
-          let w = times_push x (get_or (places ns cs) k []) f in
-          let o = filled es f x e inside empty in
-          let i = linked.chained x in
-          omega arith;
+            let a = ap (times_all x) chains in
+            let t = times_all_set x (places ns cs) k (get_or (places ns cs) k [] ++ f ∷ []) (rw (length-map cs (λ (d : Chain). walk d.len ns d.first)) h) in
+            let w = times_push x (get_or (places ns cs) k []) f in
+            let o = filled es f x e inside empty in
+            let i = linked.chained x in
+            omega arith;
         vacant = λ x.
-          let a = ap (times x) frees in
-          let o = filled es f x e inside empty in
-          let i = linked.vacant x in
-          let s = ap {B = ℕ} (λ n. cond (ltb x n) 1 0) size in
-          omega arith;
+            let a = ap (times x) frees in
+            let o = filled es f x e inside empty in
+            let i = linked.vacant x in
+            let s = ap {B = ℕ} (λ n. cond (ltb x n) 1 0) size in
+            omega arith;
         counted = let t = held_set cs k b (grown b f) h in let u = ap (λ (a : Chain). a.len) at in let i = linked.counted in omega arith;
         ends = r.ends;
         linked = omega arith;

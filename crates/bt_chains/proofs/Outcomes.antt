@@ -1,13 +1,13 @@
 -- What a push and a pop make of a pool, as its callers see it.
-use Rattle.std.proofs.Common.{◌≡◌, ◌≢◌, ℕ, zero, suc, ◌+◌, ◌-◌, ◌<◌, ◌≤◌, ◌^◌, Bool, true, false, cond, eqb, List, [], ◌∷◌, ◌++◌, Option, Some, None, length, get_or, set, take, drop, arith, refl, sym, ap, ◌∙◌, subst, add-one, get_or-set_same, get_or-set_other, length-set}
+use Rattle.std.proofs.Common.{◌≡◌, ◌≢◌, ℕ, zero, suc, ◌+◌, ◌-◌, ◌<◌, ◌^◌, Bool, true, false, cond, eqb, List, ◌∷◌, ◌++◌, Option, Some, None, length, get_or, set, take, drop, arith, refl, sym, ap, ◌∙◌, subst, add-one, get_or-set_other, length-set}
 use Rattle.std.proofs.Math.Dec.{eqb-suc-zero}
-use Rattle.std.proofs.lemmas.List.{get_or_default, take-append-le, take_all}
+use Rattle.std.proofs.lemmas.List.{get_or_default, take-append-le, take_all, length-map}
 use Rattle.bt_chains.specs.declared.Chain.{Chain}
 use Rattle.bt_chains.specs.declared.Entry.{Entry}
 use Rattle.bt_chains.specs.Links.{walk, places, no_place, joined, grown, link_after, IsEnded, IsLinked}
 use Rattle.bt_chains.specs.Places.{Places, after_of, last_of, IsPushed, IsPopped}
 use Rattle.bt_chains.proofs.Afters.{after_is}
-use Rattle.bt_chains.proofs.Moves.{taken, placed, short, chain_is, last_within}
+use Rattle.bt_chains.proofs.Moves.{taken, placed, short, chain_is}
 
 abbrev pub shown : List (Option Entry) → List ℕ → List Chain → ℕ → ℕ → Places
 shown es ns cs f fl = record { entries = es; chains = places ns cs; free = walk fl ns f }
@@ -49,7 +49,7 @@ pop es ns cs f fl k b next r linked h at some link seen =
         chains = rw link0 t.chains;
         free = rw add-one t.free;
         others = λ y o.
-          same_after es (set es b.first None) ns (set ns b.first f) cs (set cs k (record { first = next; last = b.last; len = b.len - 1 })) f b.first fl (fl + 1) y linked now
+            same_after es (set es b.first None) ns (set ns b.first f) cs (set cs k (record { first = next; last = b.last; len = b.len - 1 })) f b.first fl (fl + 1) y linked now
             (get_or-set_other es b.first y None None o) (get_or-set_other ns b.first y f 0 o);
       });
     }
@@ -85,7 +85,7 @@ push es ns ns2 cs f fl k b c next e linked h at some link longer write =
         entries = refl;
         chains = rw (longer, write) p.chains;
         others = λ y o l.
-          same_after es (set es f (Some e)) ns ns2 cs (set cs k c) f next fl (fl - 1) y linked now
+            same_after es (set es f (Some e)) ns ns2 cs (set cs k c) f next fl (fl - 1) y linked now
             (get_or-set_other es f y (Some e) None o)
             (ap (λ ms. get_or ms y 0) write ∙ joined_other ns b.first b.last b.len f y ended o (rw (chain_is ns cs k b h at) at l));
       };
@@ -110,3 +110,6 @@ pushed_links n new old ns b f write was size =
     let s = length-set ns f no_place in
     let e = ap {B = ℕ} length w in
     refilled n new (set ns f no_place) (omega arith) (omega arith) ∙ w
+
+pub chains_kept : (ns ns2 : List ℕ) (cs : List Chain) (k : ℕ) (c : Chain) → length (places ns2 (set cs k c)) ≡ length (places ns cs)
+chains_kept ns ns2 cs k c = length-map (set cs k c) (λ (d : Chain). walk d.len ns2 d.first) ∙ length-set cs k c ∙ sym (length-map cs (λ (d : Chain). walk d.len ns d.first))

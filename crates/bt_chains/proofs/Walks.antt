@@ -1,8 +1,5 @@
 -- Walks along links, after a link was written.
-use Rattle.std.proofs.Common.{◌≡◌, ◌≢◌, ℕ, zero, suc, ◌+◌, ◌-◌, ◌<◌, ◌≤◌, Bool, true, false, cond, eqb, ltb, List, [], ◌∷◌, ◌++◌, length, map, get_or, set, ◌⊎◌, inl, inr, arith, refl, sym, ap, ◌∙◌, subst, eq-eqb, get_or-set_same, get_or-set_other, length-set}
-use Rattle.std.proofs.lemmas.Bool.{eqb-true, ltb-true}
-use Rattle.std.proofs.lemmas.Bool.Decides.{eqb_tells, nat_tests}
-use Rattle.std.proofs.lemmas.List.{map-set, get_or-map, length-map}
+use Rattle.std.proofs.Common.{◌≡◌, ◌≢◌, ℕ, zero, suc, ◌+◌, ◌<◌, ◌≤◌, Bool, true, false, cond, eqb, List, [], ◌∷◌, ◌++◌, length, get_or, set, arith, refl, sym, ap, ◌∙◌, subst, eq-eqb, get_or-set_same, get_or-set_other}
 use Rattle.bt_chains.specs.declared.Chain.{Chain}
 use Rattle.bt_chains.specs.Links.{walk, beyond, places, held}
 use Rattle.bt_chains.specs.Places.{times, times_all, total_length, last_or}
@@ -98,9 +95,9 @@ extended (suc l) ns h p last d e t b =
     let s : 1 ≤ times last (walk (suc l) ns (get_or ns h 0)) = let P : ℕ → Type 0 = λ n. 1 ≤ times n (walk (suc l) ns (get_or ns h 0)) in subst P m (times_last (walk l ns (get_or ns (get_or ns h 0) 0)) (get_or ns h 0)) in
     let w = one_if (eqb last h) 0 (omega arith) in
     let i : get_or (set ns last p) h 0 ≡ get_or ns h 0 = get_or-set_other ns last h p 0 (differs last h w.0) in
-    let r = extended l ns (get_or ns h 0) p last h e (omega arith) b in
-    ( ap (λ n. h ∷ walk (suc (suc l)) (set ns last p) n) i ∙ ap (λ ys. h ∷ ys) r.0
-    , ap (λ n. beyond (suc (suc l)) (set ns last p) n) i ∙ r.1
+    let r = extended l ns (get_or ns h 0) p last h e (omega arith) b in (
+      ap (λ n. h ∷ walk (suc (suc l)) (set ns last p) n) i ∙ ap (λ ys. h ∷ ys) r.0,
+      ap (λ n. beyond (suc (suc l)) (set ns last p) n) i ∙ r.1,
     )
 
 -- the last of a longer list

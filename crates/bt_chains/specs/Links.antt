@@ -1,5 +1,5 @@
 -- How the lists of a pool are kept: each place has a link to the one behind it.
-use Rattle.std.specs.Prelude.{◌≡◌, ℕ, zero, suc, ◌+◌, ◌<◌, ◌^◌, Bool, cond, eqb, ltb, List, [], ◌∷◌, length, map, get_or, set, Option, Some, None}
+use Rattle.std.specs.Prelude.{◌≡◌, ℕ, zero, suc, ◌+◌, ◌<◌, ◌^◌, cond, eqb, ltb, List, [], ◌∷◌, length, map, get_or, set, Option, Some, None}
 use Rattle.bt_chains.specs.declared.Entry.{Entry}
 use Rattle.bt_chains.specs.declared.Chain.{Chain}
 use Rattle.bt_chains.specs.Places.{times, times_all, occupied, last_or}

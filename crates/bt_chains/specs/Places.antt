@@ -1,5 +1,5 @@
 -- What a pool holds, as its callers see it: entries that stand at places, and lists of places.
-use Rattle.std.specs.Prelude.{◌≡◌, ◌≢◌, ℕ, zero, suc, ◌+◌, Bool, cond, eqb, ltb, List, [], ◌∷◌, ◌++◌, length, get_or, set, Option, Some, None}
+use Rattle.std.specs.Prelude.{◌≡◌, ◌≢◌, ℕ, zero, suc, ◌+◌, cond, eqb, ltb, List, [], ◌∷◌, ◌++◌, length, get_or, set, Option, Some, None}
 use Rattle.bt_chains.specs.declared.Entry.{Entry}
 
 -- the entry of each place, the places of each chain from its front, and the free places

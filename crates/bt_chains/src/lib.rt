@@ -7,6 +7,9 @@ ghost use Rattle.bt_chains.specs.Links.{grown, joined};
 ghost use Rattle.bt_chains.specs.Places.{IsPopped, IsPushed, IsSound, after_of, chain_at, entry_at, front_entry, front_of, numbers_from};
 ghost use Rattle.std.specs.Prelude.{◌≡◌, ◌≢◌, ℕ, ◌<◌, ◌+◌, ◌-◌, ◌^◌, ◌↔◌, [], IsNone, IfErr, IfOk, None, Some, length, option_copied, replicate};
 
+#[cfg(test)]
+mod tests;
+
 use bt_ports::NoMemory;
 use std::alloc::{AllocError, Global};
 use std::marker::Model;
@@ -80,6 +83,8 @@ impl Pool {
         requires { chain < length self.old.chains }
         ensures pushed { IfOk result (λ _. (x : ℕ) × IsPushed self.old self.new chain entry x) }
         ensures full { IfErr result (λ e. (self.old.free ≡ []) × (self.new ≡ self.old) × (e.1 ≡ entry)) }
+        ensures chains { length self.new.chains ≡ length self.old.chains }
+        ensures entries { length self.new.entries ≡ length self.old.entries }
     {
         if self.vacant_len == 0 {
             return Err((Full, entry));
@@ -99,6 +104,8 @@ impl Pool {
         requires { chain < length self.old.chains }
         ensures popped { IsPopped self.old self.new chain result }
         ensures empty { IsNone result ↔ (chain_at self.old chain ≡ []) }
+        ensures chains { length self.new.chains ≡ length self.old.chains }
+        ensures entries { length self.new.entries ≡ length self.old.entries }
     {
         let Chain { first, last, len } = self.chains[chain as usize];
         if len == 0 {
@@ -106,7 +113,11 @@ impl Pool {
         }
         let entry = self.entries[first as usize];
         let next = self.links[first as usize];
-        self.chains[chain as usize] = Chain { first: next, last, len: len - 1 };
+        self.chains[chain as usize] = Chain {
+            first: next,
+            last,
+            len: len - 1,
+        };
         self.entries[first as usize] = None;
         self.links[first as usize] = self.vacant;
         self.vacant = first;
@@ -183,17 +194,29 @@ fn join(links: &mut [u32], chain: Chain, place: u32) -> Chain
 {
     let len = chain.len + 1;
     if chain.len == 0 {
-        return Chain { first: place, last: place, len };
+        return Chain {
+            first: place,
+            last: place,
+            len,
+        };
     }
     links[chain.last as usize] = place;
-    Chain { first: chain.first, last: place, len }
+    Chain {
+        first: chain.first,
+        last: place,
+        len,
+    }
 }
 
 // Each place linked to the next one, and all chains empty.
 fn unlinked(alloc: Global, entries: u32, chains: u32) -> Result<Pool, AllocError>
     ensures { IfOk result (λ p. p ≡ record { entries = replicate entries None; chains = replicate chains []; free = numbers_from entries 0 }) }
 {
-    let empty = Chain { first: u32::MAX, last: u32::MAX, len: 0 };
+    let empty = Chain {
+        first: u32::MAX,
+        last: u32::MAX,
+        len: 0,
+    };
     let mut links = vec![in alloc; 0u32; entries as usize]?;
     for i in 0..entries {
         links[i as usize] = i + 1;

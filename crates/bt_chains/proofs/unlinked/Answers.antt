@@ -1,4 +1,4 @@
-use Rattle.std.proofs.Common.{rules, ◌≡◌, ℕ, ◌+◌, ◌-◌, ◌<◌, arith, refl, sym, ap, ◌∙◌, get_or, None, length, replicate, List, Option}
+use Rattle.std.proofs.Common.{rules, ◌≡◌, arith, refl, None, replicate, Option}
 use Rattle.bt_chains.specs.declared.Entry.{Entry}
 use Rattle.bt_chains.proofs.Fresh.{fresh, empty_chain, empty_places}
 use Rattle.bt_chains.proofs.unlinked.Goals as goal

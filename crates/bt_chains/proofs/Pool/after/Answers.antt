@@ -1,4 +1,3 @@
-use Rattle.std.proofs.Common.{rules, ◌≡◌, ◌≢◌, ℕ, ◌<◌, ◌≤◌, ◌+◌, ◌-◌, ◌^◌, ◌↔◌, zero, suc, arith, refl, sym, ap, ◌∙◌, subst, get_or, set, map, cond, eqb, inl, inr, [], IsNone, IfErr, IfOk, None, Some, length, option_copied, replicate, Bool, true, false, List, ◌∷◌, ◌++◌, Option}
 use Rattle.bt_chains.proofs.Afters.{after_none, after_no_place, after_some}
 use Rattle.bt_chains.proofs.Pool.after.Goals as goal
 

@@ -1,4 +1,4 @@
-use Rattle.std.proofs.Common.{rules, ◌≡◌, ◌≢◌, ℕ, ◌<◌, ◌+◌, ◌-◌, ◌^◌, ◌↔◌, zero, suc, arith, refl, sym, ap, ◌∙◌, subst, get_or, set, map, cond, eqb, inl, inr, [], IsNone, IfErr, IfOk, None, Some, length, option_copied, replicate, ◌*◌, ◌≤◌, Bool, true, false, List, ◌∷◌, ◌++◌, Option}
+use Rattle.std.proofs.Common.{sym}
 use Rattle.bt_chains.proofs.Walks.{length_walk}
 use Rattle.bt_chains.proofs.Moves.{sound}
 use Rattle.bt_chains.proofs.Pool.free.Goals as goal

@@ -1,4 +1,4 @@
-use Rattle.std.proofs.Common.{rules, ◌≡◌, ◌≢◌, ℕ, ◌<◌, ◌≤◌, ◌+◌, ◌-◌, ◌^◌, ◌↔◌, zero, suc, arith, refl, sym, ap, ◌∙◌, subst, get_or, set, map, cond, eqb, inl, inr, [], IsNone, IfErr, IfOk, None, Some, length, option_copied, replicate, Bool, true, false, List, ◌∷◌, ◌++◌, Option}
+use Rattle.std.proofs.Common.{arith, sym, ◌∙◌}
 use Rattle.bt_chains.proofs.Outcomes.{within_pop}
 use Rattle.bt_chains.proofs.Moves.{chain_within, emptiness, front_found, none_alike}
 use Rattle.bt_chains.proofs.Pool.front.Goals as goal

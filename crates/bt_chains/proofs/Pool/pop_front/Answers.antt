@@ -1,8 +1,6 @@
-use Rattle.std.proofs.Common.{rules, ◌≡◌, ◌≢◌, ℕ, ◌<◌, ◌≤◌, ◌+◌, ◌-◌, ◌^◌, ◌↔◌, zero, suc, arith, refl, sym, ap, ◌∙◌, subst, get_or, set, map, cond, eqb, inl, inr, [], IsNone, IfErr, IfOk, None, Some, length, option_copied, replicate, Bool, true, false, List, ◌∷◌, ◌++◌, Option}
-use Rattle.std.proofs.lemmas.List.{length-map}
-use Rattle.bt_chains.specs.declared.Chain.{Chain}
-use Rattle.bt_chains.specs.Links.{walk}
-use Rattle.bt_chains.proofs.Outcomes.{within_pop, pop}
+use Rattle.std.proofs.Common.{arith, sym}
+use Rattle.std.proofs.lemmas.List.{length-set}
+use Rattle.bt_chains.proofs.Outcomes.{chains_kept, within_pop, pop}
 use Rattle.bt_chains.proofs.Moves.{chain_within, emptiness}
 use Rattle.bt_chains.proofs.Pool.pop_front.Goals as goal
 
@@ -53,3 +51,9 @@ pub returns-clause-empty : goal.returns-clause-empty
 returns-clause-empty c =
     let h = chain_within _ _ c.args.chain (rw (← c.self.view_is) at c.requires) in
     rw (← c.self.view_is) (emptiness _ _ _ _ _ c.args.chain _ _ c.self.invariant h (sym c.index.ensures) c.if-len-eq0.false c.index-entry.ensures)
+
+pub returns-clause-chains : goal.returns-clause-chains
+returns-clause-chains c = rw (← c.self.view_is) (chains_kept _ _ _ _ _)
+
+pub returns-clause-entries : goal.returns-clause-entries
+returns-clause-entries c = rw (← c.self.view_is) (length-set _ _ _)
