@@ -84,7 +84,7 @@ pub after_none : (es : List (Option Entry)) (ns : List ℕ) (cs : List Chain) (f
 after_none es ns cs f fl x None linked h at free = sym (after_is es ns cs f fl linked x ∙ ap (λ o. link_after o (get_or ns x 0)) (sym at))
 after_none es ns cs f fl x (Some e) linked h at free = absurd (cc)
 
-no_link : (o : Option Entry) → link_after o no_place ≡ None
+pub no_link : (o : Option Entry) → link_after o no_place ≡ None
 no_link None = refl
 no_link (Some e) = refl
 

@@ -142,6 +142,7 @@ record IsJoined (ns ns2 : List ℕ) (cs : List Chain) (k : ℕ) (b c : Chain) (f
   size : length ns2 ≡ length ns
   chains : places ns2 (set cs k c) ≡ set (places ns cs) k (walk b.len ns b.first ++ f ∷ [])
   ends : (j : ℕ) (d : Chain) → j < length (set cs k c) → IsEnded ns2 (get_or (set cs k c) j d)
+  stop : get_or ns2 f 0 ≡ no_place
   still : (m h : ℕ) → ((y : ℕ) → times y (walk m ns h) + times_all y (places ns cs) ≤ 1) → walk m ns2 h ≡ walk m ns h
 
 join_empty : (ns : List ℕ) (cs : List Chain) (k bf bl f : ℕ) → ((j : ℕ) (d : Chain) → j < length cs → IsEnded ns (get_or cs j d)) → k < length cs → get_or ns f 0 ≡ no_place
@@ -156,6 +157,7 @@ join_empty ns cs k bf bl f ends h link =
             | inl w ↦ rw (w.1, get_or-set_same cs k c d h) (record { past = link; last = refl })
             | inr w ↦ rw (get_or-set_other cs k j c d w.1) (ends j d (rw (length-set cs k c) at g))
           ];
+      stop = link;
       still = λ m t e. refl;
     }
 
@@ -180,6 +182,7 @@ join_last ns cs k bf bl l f ends h at once inside absent link =
       size = length-set ns bl f;
       chains = places_set_but ns cs k bl f b c h (omega arith) ∙ ap (λ zs. set (places ns cs) k zs) longer.0;
       ends = ends_but ns cs k bl f b c ends h at sole (record { past = longer.1 ∙ end; last = ap (λ zs. last_or zs f) longer.0 ∙ last_push (walk (suc l) ns bf) f f });
+      stop = end;
       still = λ m t e. let i = e bl in walk_set m ns t bl f (omega arith);
     }
 
@@ -198,6 +201,8 @@ join ns cs k bf bl (suc l) f ends h at once inside absent link =
 -- the first free place goes to the end of chain k
 pub record IsPlaced (es : List (Option Entry)) (ns : List ℕ) (cs : List Chain) (f m k : ℕ) (b : Chain) (e : Entry) : Type 0 where
   pub within : f < length es
+  pub empty : occupied (get_or es f None) ≡ 0
+  pub stop : get_or (joined b f (set ns f no_place)) f 0 ≡ no_place
   pub free : walk m (joined b f (set ns f no_place)) (get_or ns f 0) ≡ walk m ns (get_or ns f 0)
   pub chains : places (joined b f (set ns f no_place)) (set cs k (grown b f)) ≡ set (places ns cs) k (get_or (places ns cs) k [] ++ f ∷ [])
   pub linked : IsLinked (set es f (Some e)) (joined b f (set ns f no_place)) (set cs k (grown b f)) (get_or ns f 0) m
@@ -236,6 +241,8 @@ placed es ns cs f m k b e linked h at =
     let z2 = r.size in
     record {
       within = inside;
+      empty = empty;
+      stop = r.stop;
       free = frees;
       chains = chains;
       linked = record {

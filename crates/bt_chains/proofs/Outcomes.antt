@@ -1,12 +1,12 @@
 -- What a push and a pop make of a pool, as its callers see it.
-use Rattle.std.proofs.Common.{◌≡◌, ◌≢◌, ℕ, zero, suc, ◌+◌, ◌-◌, ◌<◌, ◌^◌, Bool, true, false, cond, eqb, List, ◌∷◌, ◌++◌, Option, Some, None, length, get_or, set, take, drop, arith, refl, sym, ap, ◌∙◌, subst, add-one, get_or-set_other, length-set}
+use Rattle.std.proofs.Common.{inl, inr, ◌≡◌, ◌≢◌, ℕ, zero, suc, ◌+◌, ◌-◌, ◌<◌, ◌^◌, Bool, true, false, cond, eqb, List, ◌∷◌, ◌++◌, Option, Some, None, length, get_or, set, take, drop, arith, refl, sym, ap, ◌∙◌, subst, add-one, get_or-set_other, length-set}
 use Rattle.std.proofs.Math.Dec.{eqb-suc-zero}
 use Rattle.std.proofs.lemmas.List.{get_or_default, take-append-le, take_all, length-map}
 use Rattle.bt_chains.specs.declared.Chain.{Chain}
 use Rattle.bt_chains.specs.declared.Entry.{Entry}
 use Rattle.bt_chains.specs.Links.{walk, places, no_place, joined, grown, link_after, IsEnded, IsLinked}
-use Rattle.bt_chains.specs.Places.{Places, after_of, last_of, IsPushed, IsPopped}
-use Rattle.bt_chains.proofs.Afters.{after_is}
+use Rattle.bt_chains.specs.Places.{Places, occupied, after_of, last_of, IsPushed, IsPopped}
+use Rattle.bt_chains.proofs.Afters.{after_is, decide, no_link}
 use Rattle.bt_chains.proofs.Moves.{taken, placed, short, chain_is}
 
 abbrev pub shown : List (Option Entry) → List ℕ → List Chain → ℕ → ℕ → Places
@@ -17,6 +17,17 @@ same_after : (es es2 : List (Option Entry)) (ns ns2 : List ℕ) (cs cs2 : List C
     → get_or es2 y None ≡ get_or es y None → get_or ns2 y 0 ≡ get_or ns y 0 → after_of y (places ns2 cs2) ≡ after_of y (places ns cs)
 same_after es es2 ns ns2 cs cs2 f f2 fl fl2 y was now e n =
     after_is es2 ns2 cs2 f2 fl2 now y ∙ ap (λ o. link_after o (get_or ns2 y 0)) e ∙ ap (link_after (get_or es y None)) n ∙ sym (after_is es ns cs f fl was y)
+
+empty_after : (o : Option Entry) (n : ℕ) → occupied o ≡ 0 → link_after o n ≡ None
+empty_after None n e = refl
+empty_after (Some x) n e = absurd (omega arith)
+
+-- a place that was free and then the last of a chain has nothing behind it either time
+stopped_after : (es es2 : List (Option Entry)) (ns ns2 : List ℕ) (cs cs2 : List Chain) (f f2 fl fl2 : ℕ) → IsLinked es ns cs f fl → IsLinked es2 ns2 cs2 f2 fl2
+    → occupied (get_or es f None) ≡ 0 → get_or ns2 f 0 ≡ no_place → after_of f (places ns2 cs2) ≡ after_of f (places ns cs)
+stopped_after es es2 ns ns2 cs cs2 f f2 fl fl2 was now empty stop =
+    after_is es2 ns2 cs2 f2 fl2 now f ∙ ap (link_after (get_or es2 f None)) stop ∙ no_link (get_or es2 f None)
+    ∙ sym (empty_after (get_or es f None) (get_or ns f 0) empty) ∙ sym (after_is es ns cs f fl was f)
 
 pub record IsPop (es : List (Option Entry)) (ns : List ℕ) (cs : List Chain) (f fl k : ℕ) (b : Chain) (next : ℕ) (r : Option Entry) : Type 0 where
   pub room : fl + 1 < 2 ^ 32
@@ -84,10 +95,16 @@ push es ns ns2 cs f fl k b c next e linked h at some link longer write =
         was_free = ap (λ m. walk m ns f) n ∙ ap (λ ys. f ∷ ys) (sym (rw (link0, write) p.free));
         entries = refl;
         chains = rw (longer, write) p.chains;
-        others = λ y o l.
-            same_after es (set es f (Some e)) ns ns2 cs (set cs k c) f next fl (fl - 1) y linked now
-            (get_or-set_other es f y (Some e) None o)
-            (ap (λ ms. get_or ms y 0) write ∙ joined_other ns b.first b.last b.len f y ended o (rw (chain_is ns cs k b h at) at l));
+        others = λ y l.
+            elim (decide y f (eqb y f) refl) [
+              | inl w ↦
+                  let new : get_or ns2 f 0 ≡ no_place = ap (λ ms. get_or ms f 0) write ∙ p.stop in
+                  rw w.1 (stopped_after es (set es f (Some e)) ns ns2 cs (set cs k c) f next fl (fl - 1) linked now p.empty new)
+              | inr w ↦
+                  same_after es (set es f (Some e)) ns ns2 cs (set cs k c) f next fl (fl - 1) y linked now
+                  (get_or-set_other es f y (Some e) None w.1)
+                  (ap (λ ms. get_or ms y 0) write ∙ joined_other ns b.first b.last b.len f y ended w.1 (rw (chain_is ns cs k b h at) at l))
+            ];
       };
     }
 

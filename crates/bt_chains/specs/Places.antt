@@ -77,14 +77,16 @@ abbrev pub numbers_from : ℕ → ℕ → List ℕ
 numbers_from zero i = []
 numbers_from (suc k) i = i ∷ numbers_from k (i + 1)
 
--- The entry came to chain k's end, at place x, which was free: no other place's entry changed, and no other chain.
+-- The entry came to chain k's end, at place x, which was free. No other place's entry changed, and no other chain. What
+-- stands behind a place changed at the chain's former last alone.
 pub record IsPushed (p q : Places) (k : ℕ) (e : Entry) (x : ℕ) : Type 0 where
   pub was_free : p.free ≡ x ∷ q.free
   pub entries : q.entries ≡ set p.entries x (Some e)
   pub chains : q.chains ≡ set p.chains k (chain_at p k ++ x ∷ [])
-  pub others : (y : ℕ) → y ≢ x → last_of (chain_at p k) ≢ Some y → after_of y q.chains ≡ after_of y p.chains
+  pub others : (y : ℕ) → last_of (chain_at p k) ≢ Some y → after_of y q.chains ≡ after_of y p.chains
 
--- Place x, the front of chain k, became free: no other place's entry changed, and no other chain.
+-- Place x, the front of chain k, became free. No other place's entry changed, and no other chain, nor what stands behind
+-- any other place.
 pub record IsFreed (p q : Places) (k x : ℕ) (xs : List ℕ) (r : Option Entry) : Type 0 where
   pub taken : r ≡ entry_at p x
   pub entries : q.entries ≡ set p.entries x None
