@@ -1,5 +1,5 @@
 -- What a pool holds, as its callers see it: entries that stand at places, and lists of places.
-use Rattle.std.specs.Prelude.{◌≡◌, ◌≢◌, ℕ, zero, suc, ◌+◌, cond, eqb, ltb, List, [], ◌∷◌, ◌++◌, length, get_or, set, Option, Some, None}
+use Rattle.std.specs.Prelude.{◌≡◌, ◌≢◌, ℕ, zero, suc, ◌+◌, cond, eqb, ltb, List, [], ◌∷◌, ◌++◌, length, get_or, set, replicate, Option, Some, None}
 use Rattle.bt_chains.specs.declared.Entry.{Entry}
 
 -- the entry of each place, the places of each chain from its front, and the free places
@@ -76,6 +76,10 @@ front_entry es (x ∷ xs) = get_or es x None
 abbrev pub numbers_from : ℕ → ℕ → List ℕ
 numbers_from zero i = []
 numbers_from (suc k) i = i ∷ numbers_from k (i + 1)
+
+-- every place free, from place 0 on, and every chain empty
+abbrev pub all_free : ℕ → ℕ → Places
+all_free n m = record { entries = replicate n None; chains = replicate m []; free = numbers_from n 0 }
 
 -- The entry came to chain k's end, at place x, which was free. No other place's entry changed, and no other chain. What
 -- stands behind a place changed at the chain's former last alone.

@@ -4,8 +4,8 @@
 #![tactic(auto)]
 
 ghost use Rattle.bt_chains.specs.Links.{grown, joined};
-ghost use Rattle.bt_chains.specs.Places.{IsPopped, IsPushed, IsSound, after_of, chain_at, entry_at, front_entry, front_of, numbers_from};
-ghost use Rattle.std.specs.Prelude.{◌≡◌, ◌≢◌, ℕ, ◌<◌, ◌+◌, ◌-◌, ◌^◌, ◌↔◌, [], IsNone, IfErr, IfOk, None, Some, length, option_copied, replicate};
+ghost use Rattle.bt_chains.specs.Places.{IsPopped, IsPushed, IsSound, after_of, all_free, chain_at, entry_at, front_entry, front_of};
+ghost use Rattle.std.specs.Prelude.{◌≡◌, ℕ, ◌<◌, ◌-◌, ◌^◌, ◌↔◌, [], IsNone, IfErr, IfOk, length, option_copied};
 
 #[cfg(test)]
 mod tests;
@@ -68,7 +68,7 @@ impl Model for Pool {
 impl Pool {
     /// A pool of so many places, all free, and so many empty chains.
     pub fn make(alloc: Global, entries: u32, chains: u32) -> Result<Pool, NoMemory>
-        ensures { IfOk result (λ p. p ≡ record { entries = replicate entries None; chains = replicate chains []; free = numbers_from entries 0 }) }
+        ensures { IfOk result (λ p. p ≡ all_free entries chains) }
     {
         match unlinked(alloc, entries, chains) {
             Ok(pool) => Ok(pool),
@@ -210,7 +210,7 @@ fn join(links: &mut [u32], chain: Chain, place: u32) -> Chain
 
 // Each place linked to the next one, and all chains empty.
 fn unlinked(alloc: Global, entries: u32, chains: u32) -> Result<Pool, AllocError>
-    ensures { IfOk result (λ p. p ≡ record { entries = replicate entries None; chains = replicate chains []; free = numbers_from entries 0 }) }
+    ensures { IfOk result (λ p. p ≡ all_free entries chains) }
 {
     let empty = Chain {
         first: u32::MAX,
