@@ -1,0 +1,5 @@
+pub mod Walks
+pub mod Moves
+pub mod Afters
+pub mod Fresh
+pub mod Outcomes
