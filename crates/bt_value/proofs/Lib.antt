@@ -2,6 +2,7 @@ pub mod Compared
 pub mod Depths
 pub mod Giving
 pub mod Nested
+pub mod Numerals
 pub mod Ordered
 pub mod Returns
 pub mod Rise

@@ -4,3 +4,4 @@ pub mod Plain
 pub mod Depth
 pub mod Reading
 pub mod formers
+pub mod Paths

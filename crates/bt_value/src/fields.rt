@@ -1,5 +1,5 @@
 //! The members of an object.
-ghost use Rattle.std.specs.Prelude.{◌≡◌, ◌∷◌, [], ◌++◌, length, OnOk, OnErr, IsTrue, ◌↔◌};
+ghost use Rattle.std.specs.Prelude.{◌≡◌, ◌∷◌, [], ◌++◌, length, OnOk, OnErr, IsTrue, ◌↔◌, option_map, slice_get};
 ghost use Rattle.std.specs.Option.{option_copied};
 ghost use Rattle.bt_value.specs.Keys.{Rising, find};
 
@@ -52,6 +52,16 @@ impl<V> Fields<V> {
         ensures { IsTrue result ↔ (self.now ≡ []) }
     {
         self.entries.is_empty()
+    }
+
+    /// The key and the value at place `i`, and nothing exactly past the end.
+    pub fn at(&self, i: usize) -> Option<(&str, &V)>
+        ensures { option_map (λ m. (m.0.now, m.1.now)) result ≡ slice_get self.now i }
+    {
+        match self.entries.get(i) {
+            Some(entry) => Some((entry.0.as_str(), &entry.1)),
+            None => None,
+        }
     }
 
     /// The members, with rising keys.

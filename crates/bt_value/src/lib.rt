@@ -9,7 +9,10 @@ mod copies;
 pub mod fields;
 mod measure;
 mod order;
+mod path;
 pub mod read;
+#[cfg(test)]
+mod tests;
 pub mod val;
 mod write;
 
@@ -17,6 +20,7 @@ pub use copies::copy;
 pub use fields::Fields;
 pub use measure::depth;
 pub use order::compare;
+pub use path::path_get;
 pub use read::{JsonFault, read_json};
 pub use val::{Members, Val, Vals};
 pub use write::{write_json, write_pretty};
