@@ -4,6 +4,7 @@ pub mod Giving
 pub mod Nested
 pub mod Numerals
 pub mod Ordered
+pub mod Putting
 pub mod Returns
 pub mod Rise
 pub mod Taking

@@ -1,11 +1,18 @@
 //! The members of an object.
-ghost use Rattle.std.specs.Prelude.{◌≡◌, ◌∷◌, [], ◌++◌, length, OnOk, OnErr, IsTrue, ◌↔◌, option_map, slice_get};
+ghost use Rattle.std.specs.Prelude.{◌≡◌, ◌∷◌, [], ◌++◌, length, OnOk, OnErr, ◌≤◌, IsTrue, ◌↔◌, option_map, slice_get};
 ghost use Rattle.std.specs.Option.{option_copied};
-ghost use Rattle.bt_value.specs.Keys.{Rising, find};
+ghost use Rattle.std.specs.BTreeMap.{insert_entry};
+ghost use Rattle.std.specs.Cmp.Lexicographic.{slice_cmp};
+ghost use Rattle.std.specs.List.{insert};
+ghost use Rattle.std.specs.Map.{remove_entry};
+ghost use Rattle.std.specs.Ordering.{nat_cmp};
+ghost use Rattle.std.specs.Str.{bytes_eq};
+ghost use Rattle.bt_value.specs.Keys.{Rising, find, place, slot};
 
 use bt_ports::NoMemory;
 use bt_ports::text::Text;
 use std::alloc::Global;
+use std::cmp::Ordering;
 use std::marker::Model;
 
 /// The members of an object, which contracts see as a list of pairs of key and value.
@@ -85,7 +92,78 @@ impl<V> Fields<V> {
     }
 }
 
+impl<V> Fields<V> {
+    // The place of the key.
+    fn place(&self, key: &str) -> Option<usize>
+        ensures { result ≡ place key.now self.now }
+    {
+        for i in 0..self.entries.len() {
+            if key == self.entries[i].0.as_str() {
+                return Some(i);
+            }
+        }
+        None
+    }
+
+    // The place of the key, or in an error the place that it would have.
+    fn slot(&self, key: &str) -> Result<usize, usize>
+        ensures { result ≡ slot key.now self.now }
+    {
+        for i in 0..self.entries.len() {
+            match key.as_bytes().cmp(self.entries[i].0.as_str().as_bytes()) {
+                Ordering::Less => return Err(i),
+                Ordering::Equal => return Ok(i),
+                Ordering::Greater => {}
+            }
+        }
+        Err(self.entries.len())
+    }
+}
+
 impl<V: Drop> Fields<V> {
+    /// Puts the value at the key. A key that is there takes it in place of its own, and a new one
+    /// goes between those below and those above it. Without memory the members stay as they were.
+    pub fn put(&mut self, key: Text, value: V) -> Result<(), NoMemory>
+        ensures ok { OnOk result (self.new ≡ insert_entry (slice_cmp nat_cmp) self.old key value) }
+        ensures err { OnErr result (self.new ≡ self.old) }
+    {
+        match self.slot(key.as_str()) {
+            Ok(at) => {
+                self.entries[at].1 = value;
+                Ok(())
+            }
+            Err(at) => self.insert(at, key, value),
+        }
+    }
+
+    /// Takes out the member with the key and gives its value, and changes nothing exactly where no
+    /// member has it. It takes no memory.
+    pub fn remove(&mut self, key: &str) -> Option<V>
+        ensures value { result ≡ find key.now self.old }
+        ensures rest { self.new ≡ remove_entry (bytes_eq key.now) self.old }
+    {
+        match self.place(key) {
+            Some(at) => {
+                let (_name, value) = self.entries.remove(at);
+                Some(value)
+            }
+            None => None,
+        }
+    }
+
+    // Puts a member at a place where the keys still rise with it.
+    fn insert(&mut self, at: usize, key: Text, value: V) -> Result<(), NoMemory>
+        requires within { at ≤ length self.old }
+        requires rising { Rising (insert self.old at (key, value)) }
+        ensures ok { OnOk result (self.new ≡ insert self.old at (key, value)) }
+        ensures err { OnErr result (self.new ≡ self.old) }
+    {
+        match self.entries.insert(at, (key, value)) {
+            Ok(()) => Ok(()),
+            Err(_) => Err(NoMemory),
+        }
+    }
+
     /// Puts a member at the end, whose key is above those that are there. Without memory the
     /// members stay as they were.
     pub(crate) fn push(&mut self, key: Text, value: V) -> Result<(), NoMemory>

@@ -1,6 +1,8 @@
 //! What texts are read as, how values are printed, and how they compare, on values worked out by hand.
 
-use crate::{JsonFault, Val, compare, copy, depth, path_get, read_json, write_json, write_pretty};
+use crate::{
+    JsonFault, Members, Val, compare, copy, depth, path_get, read_json, write_json, write_pretty,
+};
 use bt_ports::text::Text;
 use std::alloc::Global;
 use std::cmp::Ordering;
@@ -185,5 +187,20 @@ fn members_are_found_by_place_and_by_key(rt: HostRuntime) -> Result<(), Fail> {
     assert!(rt; members.at(2).is_none());
     assert!(rt; members.find("b").is_some());
     assert!(rt; members.find("c").is_none());
+    Ok(())
+}
+
+#[test]
+fn members_are_put_in_their_place_and_taken_out(rt: HostRuntime) -> Result<(), Fail> {
+    let mut members = Members::new(rt.alloc());
+    for (key, number) in [("b", 1), ("a", 2), ("c", 3), ("a", 4)] {
+        members.put(Text::make(rt.alloc(), key)?, Val::Int(number))?;
+    }
+    assert!(rt; matches!(members.remove("c"), Some(Val::Int(3))));
+    assert!(rt; members.remove("c").is_none());
+    assert_eq!(rt; members.len(), 2);
+    let (first, value) = members.at(0).ok_or("a first member")?;
+    assert_eq!(rt; first, "a");
+    assert!(rt; matches!(value, Val::Int(4)));
     Ok(())
 }
