@@ -1,0 +1,12 @@
+pub mod Compared
+pub mod Depths
+pub mod Giving
+pub mod Nested
+pub mod Numerals
+pub mod Ordered
+pub mod Putting
+pub mod Returns
+pub mod Rise
+pub mod Taking
+pub mod Texts
+pub mod Whole

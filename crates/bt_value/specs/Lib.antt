@@ -1,0 +1,7 @@
+pub mod Keys
+pub mod Order
+pub mod Plain
+pub mod Depth
+pub mod Reading
+pub mod formers
+pub mod Paths
