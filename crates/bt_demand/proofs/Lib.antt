@@ -1,3 +1,4 @@
 pub mod Outcomes
+pub mod Reasons
 pub mod Rows
 pub mod Starts
