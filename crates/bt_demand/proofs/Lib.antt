@@ -1,3 +1,4 @@
+pub mod Examples
 pub mod Outcomes
 pub mod Reasons
 pub mod Rows

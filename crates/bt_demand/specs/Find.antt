@@ -44,6 +44,18 @@ abbrev mutual
   below_each m none = None
   below_each m (more t ts) = tree_or_else (below m t) (below_each m ts)
 
+abbrev pub is_there : Option (List ℕ) → Bool
+is_there None = false
+is_there (Some b) = true
+
+abbrev pub has_leaf : ℕ → Option Tree → Bool
+has_leaf l None = false
+has_leaf l (Some t) = is_there (bytes_of l t)
+
+-- the first hold of number m has a leaf of number l below it
+abbrev pub leaf_below : ℕ → ℕ → Tree → Bool
+leaf_below m l t = has_leaf l (below m t)
+
 abbrev pub tried : State → Bool
 tried Fresh = false
 tried Good = true

@@ -1,3 +1,4 @@
+pub mod Asked
 pub mod Find
 pub mod Holds
 pub mod Next
@@ -6,3 +7,4 @@ pub mod Reasons
 pub mod Steps
 pub mod Tree
 pub mod View
+pub mod WellFormed

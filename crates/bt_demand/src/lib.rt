@@ -6,6 +6,9 @@
 
 pub mod demand;
 pub mod outcome;
+pub mod routes;
 pub mod search;
 pub mod steps;
+#[cfg(test)]
+mod tests;
 pub mod todo;

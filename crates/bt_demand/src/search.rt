@@ -1,12 +1,14 @@
 //! What stands in a demand. None of the calls takes memory.
 ghost use Rattle.std.specs.Prelude.{◌≡◌, min, option_map};
-ghost use Rattle.bt_demand.specs.Find.{bytes_of, bytes_in, below, below_each, begun, some_begun};
+ghost use Rattle.bt_demand.specs.Find.{bytes_of, bytes_in, below, below_each, leaf_below, begun, some_begun};
 ghost use Rattle.bt_demand.specs.Holds.{holds, holds_in};
+ghost use Rattle.bt_demand.specs.Next.{todo};
 ghost use Rattle.bt_demand.specs.Reasons.{why, why_of_first_lost, why_of_last, refused_leaves, least, least_refused, least_refused_in, lesser};
 ghost use Rattle.bt_demand.specs.View.{tree, trees};
 
 use crate::demand::{Demand, Demands, Stage, State};
 use crate::outcome::Outcome;
+use crate::todo::Todo;
 
 impl Demand {
     /// The bytes of the first leaf of that number, and None exactly where there is none.
@@ -48,6 +50,26 @@ impl Demand {
                     child.below(number)
                 }
             }
+        }
+    }
+
+    /// What is next for the child of the first hold of that number, and None exactly where there is no such hold.
+    pub fn todo_below(&self, number: u32) -> Option<Option<Todo>>
+        ensures { result ≡ option_map todo (below number (tree self.now)) }
+    {
+        match self.below(number) {
+            Some(child) => Some(child.todo()),
+            None => None,
+        }
+    }
+
+    /// Whether the first hold of the number `node` has a leaf of the number `leaf` below it.
+    pub fn leaf_below(&self, node: u32, leaf: u32) -> bool
+        ensures { result ≡ leaf_below node leaf (tree self.now) }
+    {
+        match self.below(node) {
+            Some(child) => child.bytes_of(leaf).is_some(),
+            None => false,
         }
     }
 
