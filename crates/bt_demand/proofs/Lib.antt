@@ -1,5 +1,10 @@
 pub mod Examples
+pub mod Falls
+pub mod Flushing
+pub mod Moves
+pub mod NextSettles
 pub mod Outcomes
 pub mod Reasons
+pub mod Recorded
 pub mod Rows
 pub mod Starts

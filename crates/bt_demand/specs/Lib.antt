@@ -1,10 +1,13 @@
 pub mod Asked
 pub mod Find
+pub mod Flushing
 pub mod Holds
 pub mod Next
 pub mod Outcomes
 pub mod Reasons
+pub mod Recorded
 pub mod Steps
 pub mod Tree
 pub mod View
 pub mod WellFormed
+pub mod Work

@@ -1,9 +1,12 @@
+-- What is next for a demand, the leftmost first.
 use Rattle.std.specs.Prelude.{ℕ, Bool, true, false, ◌&&◌, Option, Some, None}
 use Rattle.bt_demand.specs.Tree.{Tree, Trees, leaf, drop, reject, all, first, hold, none, more}
 use Rattle.bt_demand.specs.declared.demand.State.{State}
 use Rattle.bt_demand.specs.declared.demand.State.TheVariants.{Untried as Fresh, Good, Bad}
 use Rattle.bt_demand.specs.declared.demand.Stage.{Stage}
 use Rattle.bt_demand.specs.declared.demand.Stage.TheVariants.{Untried as Idle, Waiting, Released}
+use Rattle.bt_demand.specs.declared.outcome.Outcome.{Outcome}
+use Rattle.bt_demand.specs.declared.outcome.Outcome.TheVariants.{Open, Met, Lost}
 use Rattle.bt_demand.specs.declared.todo.Todo.{Todo}
 use Rattle.bt_demand.specs.declared.todo.Todo.TheVariants.{Put, Wait, Settled}
 
@@ -46,6 +49,7 @@ todo_of_hold n Waiting _ = None
 todo_of_hold n Released r = r
 
 abbrev mutual
+  -- the leaf to put, the hold to wait in, or that it is settled; None where all that may start waits
   pub todo : Tree → Option Todo
   todo (leaf n k b s) = todo_of_leaf n k s
   todo drop = Some (Settled true)
@@ -61,3 +65,11 @@ abbrev mutual
   pub todo_of_first : Trees → Option Todo
   todo_of_first none = Some (Settled false)
   todo_of_first (more t ts) = fallback (todo t) (todo_of_first ts)
+
+-- whether a demand is settled, by what is next for it
+abbrev pub outcome_after : Option Todo → Outcome
+outcome_after (Some (Put l k)) = Open
+outcome_after (Some (Wait n)) = Open
+outcome_after (Some (Settled true)) = Met
+outcome_after (Some (Settled false)) = Lost
+outcome_after None = Open

@@ -1,3 +1,4 @@
+-- What each step makes of a tree. Each recurses below holds too, and changes nothing that another step settled.
 use Rattle.std.specs.Prelude.{ℕ, Bool, true, false, cond, eqb}
 use Rattle.bt_demand.specs.Tree.{Tree, Trees, leaf, drop, reject, all, first, hold, none, more}
 use Rattle.bt_demand.specs.declared.demand.Stage.{Stage}
@@ -15,7 +16,7 @@ settles s Untried = s
 settles s Good = Good
 settles s Bad = Bad
 
--- the leaf of that number with that state
+-- the leaf of that number in that state, where it was untried
 abbrev mutual
   pub settle : ℕ → State → Tree → Tree
   settle l s (leaf n k b x) = leaf n k b (cond (eqb n l) (settles s x) x)
@@ -39,7 +40,7 @@ releases Idle = Idle
 releases Waiting = Released
 releases Released = Released
 
--- the hold of that number waits
+-- the hold of that number waits, where it was untried
 abbrev mutual
   pub wait : ℕ → Tree → Tree
   wait l (leaf n k b x) = leaf n k b x
@@ -53,7 +54,7 @@ abbrev mutual
   wait_each l none = none
   wait_each l (more t ts) = more (wait l t) (wait_each l ts)
 
--- the hold of that number is released
+-- the hold of that number is released, where it waited
 abbrev mutual
   pub release : ℕ → Tree → Tree
   release l (leaf n k b x) = leaf n k b x

@@ -1,6 +1,14 @@
 //! The steps of a demand, written down in place. None of them takes memory.
-ghost use Rattle.std.specs.Prelude.{◌≡◌};
+//!
+//! Each step that was next lowers the work that is left, so that a run of steps ends, and what is settled stays settled
+//! in the same way.
+ghost use Rattle.std.specs.Prelude.{◌≡◌, ℕ, ◌<◌, Some};
+ghost use Rattle.bt_demand.specs.Next.{todo};
+ghost use Rattle.bt_demand.specs.Outcomes.{outcome};
+ghost use Rattle.bt_demand.specs.Recorded.{Grows};
 ghost use Rattle.bt_demand.specs.Steps.{settle, settle_each, state_for, settles, wait, wait_each, waits, release, release_each, releases};
+ghost use Rattle.bt_demand.specs.Work.{work, Waits};
+ghost use Rattle.bt_demand.specs.declared.todo.Todo.TheVariants.{Put, Wait};
 ghost use Rattle.bt_demand.specs.View.{tree, trees};
 
 use crate::demand::{Demand, Demands, Stage, State};
@@ -9,8 +17,16 @@ impl Demand {
     /// Writes down what became of the record of the leaf of that number.
     ///
     /// A leaf that was settled before stays as it was.
-    #[cycle(settle)]
     pub fn settle(&mut self, number: u32, accepted: bool)
+        ensures tree { tree self.new ≡ settle number (state_for accepted) (tree self.old) }
+        ensures falls { (sink : ℕ) → todo (tree self.old) ≡ Some (Put number sink) → work (tree self.new) < work (tree self.old) }
+        ensures stays { Grows (outcome (tree self.old)) (outcome (tree self.new)) }
+    {
+        self.settle_leaf(number, accepted);
+    }
+
+    #[cycle(settle)]
+    fn settle_leaf(&mut self, number: u32, accepted: bool)
         ensures { tree self.new ≡ settle number (state_for accepted) (tree self.old) }
     {
         match self {
@@ -23,15 +39,23 @@ impl Demand {
             Demand::Reject(_) => {}
             Demand::All(children) => children.settle_each(number, accepted),
             Demand::First(children) => children.settle_each(number, accepted),
-            Demand::Hold { child, .. } => child.settle(number, accepted),
+            Demand::Hold { child, .. } => child.settle_leaf(number, accepted),
         }
     }
 
     /// Writes down that the hold of that number begins to wait.
     ///
     /// A hold that waits or was released stays as it was.
-    #[cycle(wait)]
     pub fn wait(&mut self, number: u32)
+        ensures tree { tree self.new ≡ wait number (tree self.old) }
+        ensures falls { todo (tree self.old) ≡ Some (Wait number) → work (tree self.new) < work (tree self.old) }
+        ensures stays { Grows (outcome (tree self.old)) (outcome (tree self.new)) }
+    {
+        self.wait_in(number);
+    }
+
+    #[cycle(wait)]
+    fn wait_in(&mut self, number: u32)
         ensures { tree self.new ≡ wait number (tree self.old) }
     {
         match self {
@@ -43,7 +67,7 @@ impl Demand {
             Demand::Hold {
                 node, child, stage, ..
             } => {
-                child.wait(number);
+                child.wait_in(number);
                 if *node == number {
                     *stage = stage.waits();
                 }
@@ -54,8 +78,16 @@ impl Demand {
     /// Writes down that the hold of that number is released.
     ///
     /// A hold that doesn't wait stays as it was.
-    #[cycle(release)]
     pub fn release(&mut self, number: u32)
+        ensures tree { tree self.new ≡ release number (tree self.old) }
+        ensures falls { Waits number (tree self.old) → work (tree self.new) < work (tree self.old) }
+        ensures stays { Grows (outcome (tree self.old)) (outcome (tree self.new)) }
+    {
+        self.release_hold(number);
+    }
+
+    #[cycle(release)]
+    fn release_hold(&mut self, number: u32)
         ensures { tree self.new ≡ release number (tree self.old) }
     {
         match self {
@@ -67,7 +99,7 @@ impl Demand {
             Demand::Hold {
                 node, child, stage, ..
             } => {
-                child.release(number);
+                child.release_hold(number);
                 if *node == number {
                     *stage = stage.releases();
                 }
@@ -83,7 +115,7 @@ impl Demands {
     {
         for i in 0..self.list.len() {
             let d = &mut self.list[i];
-            d.settle(number, accepted);
+            d.settle_leaf(number, accepted);
         }
     }
 
@@ -93,7 +125,7 @@ impl Demands {
     {
         for i in 0..self.list.len() {
             let d = &mut self.list[i];
-            d.wait(number);
+            d.wait_in(number);
         }
     }
 
@@ -103,7 +135,7 @@ impl Demands {
     {
         for i in 0..self.list.len() {
             let d = &mut self.list[i];
-            d.release(number);
+            d.release_hold(number);
         }
     }
 }

@@ -1,6 +1,7 @@
 //! What is next for a demand.
-ghost use Rattle.std.specs.Prelude.{◌≡◌, Some, None, IsTrue};
-ghost use Rattle.bt_demand.specs.Next.{todo, todo_of_all, todo_of_first, both, starts};
+ghost use Rattle.std.specs.Prelude.{◌≡◌};
+ghost use Rattle.bt_demand.specs.Next.{todo, todo_of_all, todo_of_first, both, starts, outcome_after};
+ghost use Rattle.bt_demand.specs.Outcomes.{met, lost, is_met, is_lost};
 ghost use Rattle.bt_demand.specs.View.{tree, trees};
 
 use crate::demand::{Demand, Demands, Stage, State};
@@ -20,8 +21,16 @@ impl Demand {
     /// The next thing to do, the leftmost first. It is None exactly where all that may start waits in holds.
     ///
     /// Every child of an All is tried. A child of a First is tried where all before it are lost. It takes no memory.
-    #[cycle(todo)]
     pub fn todo(&self) -> Option<Todo>
+        ensures next { result ≡ todo (tree self.now) }
+        ensures met { is_met (outcome_after result) ≡ met (tree self.now) }
+        ensures lost { is_lost (outcome_after result) ≡ lost (tree self.now) }
+    {
+        self.next()
+    }
+
+    #[cycle(todo)]
+    fn next(&self) -> Option<Todo>
         ensures { result ≡ todo (tree self.now) }
     {
         match self {
@@ -42,7 +51,7 @@ impl Demand {
             } => match stage {
                 Stage::Untried => Some(Todo::Wait { node: *node }),
                 Stage::Waiting => None,
-                Stage::Released => child.todo(),
+                Stage::Released => child.next(),
             },
         }
     }
@@ -56,7 +65,7 @@ impl Demands {
     {
         let mut sum = Some(Todo::Settled { met: true });
         for d in self.list.iter() {
-            let next = d.todo();
+            let next = d.next();
             if starts(next) {
                 return next;
             }
@@ -71,7 +80,7 @@ impl Demands {
         ensures { result ≡ todo_of_first (trees self.now.list.items) }
     {
         for d in self.list.iter() {
-            match d.todo() {
+            match d.next() {
                 Some(Todo::Settled { met: false }) => {}
                 other => return other,
             }
