@@ -3,6 +3,7 @@ pub mod Falls
 pub mod Flushing
 pub mod Moves
 pub mod NextSettles
+pub mod NextStarts
 pub mod Outcomes
 pub mod Reasons
 pub mod Recorded

@@ -6,6 +6,7 @@ pub mod Next
 pub mod Outcomes
 pub mod Reasons
 pub mod Recorded
+pub mod Startable
 pub mod Steps
 pub mod Tree
 pub mod View

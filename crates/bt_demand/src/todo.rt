@@ -1,7 +1,8 @@
 //! What is next for a demand.
 ghost use Rattle.std.specs.Prelude.{◌≡◌};
 ghost use Rattle.bt_demand.specs.Next.{todo, todo_of_all, todo_of_first, both, starts, outcome_after};
-ghost use Rattle.bt_demand.specs.Outcomes.{met, lost, is_met, is_lost};
+ghost use Rattle.bt_demand.specs.Outcomes.{met, lost, is_met, is_lost, outcome};
+ghost use Rattle.bt_demand.specs.Startable.{startable, first_to_start};
 ghost use Rattle.bt_demand.specs.View.{tree, trees};
 
 use crate::demand::{Demand, Demands, Stage, State};
@@ -23,6 +24,7 @@ impl Demand {
     /// Every child of an All is tried. A child of a First is tried where all before it are lost. It takes no memory.
     pub fn todo(&self) -> Option<Todo>
         ensures next { result ≡ todo (tree self.now) }
+        ensures first { result ≡ first_to_start (startable (tree self.now)) (outcome (tree self.now)) }
         ensures met { is_met (outcome_after result) ≡ met (tree self.now) }
         ensures lost { is_lost (outcome_after result) ≡ lost (tree self.now) }
     {
