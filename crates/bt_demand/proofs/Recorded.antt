@@ -14,6 +14,8 @@ use Rattle.bt_demand.specs.declared.demand.State.{State}
 use Rattle.bt_demand.specs.declared.demand.State.TheVariants.{Untried as Fresh, Good, Bad}
 use Rattle.bt_demand.specs.declared.demand.Stage.{Stage}
 use Rattle.bt_demand.specs.declared.demand.Stage.TheVariants.{Untried as Idle, Waiting, Released}
+use Rattle.bt_demand.specs.Outcomes.{met, lost, is_met, is_lost}
+use Rattle.bt_demand.proofs.Outcomes.{outcome-met, outcome-lost}
 use Rattle.bt_demand.proofs.Flushing.{all_grows, first_grows}
 
 mutual
@@ -41,21 +43,21 @@ hold_grows Released a b p = p
 
 -- what is settled by its states is settled so by its records
 mutual
-  pub fill_grows : (look : ℕ → State) (t : Tree) → Agree look t → Grows (outcome t) (outcome (recorded look t))
-  fill_grows look (leaf n k b x) h = rw (← h) (grows_same (outcome_of_state x))
-  fill_grows look drop h = refl
-  fill_grows look (reject w) h = refl
-  fill_grows look (all ts) h = fill_all_grows look ts h
-  fill_grows look (first ts) h = fill_first_grows look ts h
-  fill_grows look (hold m e z c g) h = hold_grows g (outcome c) _ (fill_grows look c h)
+  pub recorded_grows : (look : ℕ → State) (t : Tree) → Agree look t → Grows (outcome t) (outcome (recorded look t))
+  recorded_grows look (leaf n k b x) h = rw (← h) (grows_same (outcome_of_state x))
+  recorded_grows look drop h = refl
+  recorded_grows look (reject w) h = refl
+  recorded_grows look (all ts) h = recorded_in_grows look ts h
+  recorded_grows look (first ts) h = recorded_first_grows look ts h
+  recorded_grows look (hold m e z c g) h = hold_grows g (outcome c) _ (recorded_grows look c h)
 
-  pub fill_all_grows : (look : ℕ → State) (ts : Trees) → AgreeAll look ts → Grows (outcome_of_all ts) (outcome_of_all (recorded_in look ts))
-  fill_all_grows look none h = refl
-  fill_all_grows look (more t ts) h = all_grows (outcome t) _ (outcome_of_all ts) _ (fill_grows look t h.0) (fill_all_grows look ts h.1)
+  pub recorded_in_grows : (look : ℕ → State) (ts : Trees) → AgreeAll look ts → Grows (outcome_of_all ts) (outcome_of_all (recorded_in look ts))
+  recorded_in_grows look none h = refl
+  recorded_in_grows look (more t ts) h = all_grows (outcome t) _ (outcome_of_all ts) _ (recorded_grows look t h.0) (recorded_in_grows look ts h.1)
 
-  pub fill_first_grows : (look : ℕ → State) (ts : Trees) → AgreeAll look ts → Grows (outcome_of_first ts) (outcome_of_first (recorded_in look ts))
-  fill_first_grows look none h = refl
-  fill_first_grows look (more t ts) h = first_grows (outcome t) _ (outcome_of_first ts) _ (fill_grows look t h.0) (fill_first_grows look ts h.1)
+  pub recorded_first_grows : (look : ℕ → State) (ts : Trees) → AgreeAll look ts → Grows (outcome_of_first ts) (outcome_of_first (recorded_in look ts))
+  recorded_first_grows look none h = refl
+  recorded_first_grows look (more t ts) h = first_grows (outcome t) _ (outcome_of_first ts) _ (recorded_grows look t h.0) (recorded_first_grows look ts h.1)
 
 settled_leaf : (b : Bool) (s x y : State) → x ≡ y → (b ≡ true → y ≡ Fresh) → cond b (settles s x) x ≡ cond b s y
 settled_leaf true s Fresh y e f = refl
@@ -122,3 +124,21 @@ mutual
   pub next_first_fresh : (look : ℕ → State) (l k : ℕ) (ts : Trees) → AgreeAll look ts → todo_of_first ts ≡ Some (Put l k) → look l ≡ Fresh
   next_first_fresh look l k none h e = cc
   next_first_fresh look l k (more t ts) h e = elim (fallback_puts (todo t) (todo_of_first ts) l k e) [ inl i ↦ next_fresh look l k t h.0 i | inr i ↦ next_first_fresh look l k ts h.1 i ]
+
+grows-met : (a b : Outcome) → Grows a b → is_met a ≡ true → is_met b ≡ true
+grows-met Open b g e = cc
+grows-met Met b g e = rw g refl
+grows-met Lost b g e = cc
+
+grows-lost : (a b : Outcome) → Grows a b → is_lost a ≡ true → is_lost b ≡ true
+grows-lost Open b g e = cc
+grows-lost Met b g e = cc
+grows-lost Lost b g e = rw g refl
+
+-- what is met by the states is met by the records
+pub met-recorded : (look : ℕ → State) (t : Tree) → Agree look t → met t ≡ true → met (recorded look t) ≡ true
+met-recorded look t h e = sym (outcome-met (recorded look t)) ∙ grows-met _ _ (recorded_grows look t h) (outcome-met t ∙ e)
+
+-- what is lost by the states is lost by the records
+pub lost-recorded : (look : ℕ → State) (t : Tree) → Agree look t → lost t ≡ true → lost (recorded look t) ≡ true
+lost-recorded look t h e = sym (outcome-lost (recorded look t)) ∙ grows-lost _ _ (recorded_grows look t h) (outcome-lost t ∙ e)

@@ -1,5 +1,7 @@
 -- Trees beside the records of their leaves.
-use Rattle.std.specs.Prelude.{◌≡◌, ℕ, cond, eqb}
+use Rattle.std.specs.Prelude.{◌≡◌, ℕ, Bool, List, cond, eqb, if◌then◌else◌}
+use Rattle.std.specs.List.{list_any}
+use Rattle.bt_demand.specs.Outcomes.{met, lost}
 use Rattle.bt_demand.specs.Tree.{Tree, Trees, leaf, drop, reject, all, first, hold, none, more}
 use Rattle.bt_demand.specs.declared.outcome.Outcome.{Outcome}
 use Rattle.bt_demand.specs.declared.outcome.Outcome.TheVariants.{Open, Met, Lost}
@@ -59,3 +61,14 @@ abbrev mutual
 -- one more record
 abbrev pub with_record : (ℕ → State) → ℕ → State → ℕ → State
 with_record look l s n = cond (eqb n l) s (look n)
+
+-- the state of a leaf, by the numbers of the leaves whose records were accepted and refused
+abbrev pub state_by : List ℕ → List ℕ → ℕ → State
+state_by accepted refused n = if list_any (eqb n) accepted then Good else if list_any (eqb n) refused then Bad else Fresh
+
+-- met and lost by records, once no hold waits
+abbrev pub met_by : List ℕ → List ℕ → Tree → Bool
+met_by accepted refused t = met (recorded (state_by accepted refused) t)
+
+abbrev pub lost_by : List ℕ → List ℕ → Tree → Bool
+lost_by accepted refused t = lost (recorded (state_by accepted refused) t)
