@@ -1,12 +1,12 @@
 -- The definitions, computed on small trees.
-use Rattle.std.proofs.Common.{◌≡◌, ℕ, true, false, List, [], ◌∷◌, None, Some, refl}
+use Rattle.std.proofs.Common.{◌≡◌, true, false, [], ◌∷◌, None, Some, refl}
 use Rattle.bt_demand.specs.Asked.{asked, owed}
 use Rattle.bt_demand.specs.Holds.{holds}
 use Rattle.bt_demand.specs.Next.{todo}
 use Rattle.bt_demand.specs.Outcomes.{met, lost}
 use Rattle.bt_demand.specs.Reasons.{why, least, refused_leaves}
-use Rattle.bt_demand.specs.Tree.{Tree, Trees, leaf, drop, reject, all, first, hold, none, more}
-use Rattle.bt_demand.specs.WellFormed.{leaves, sinks, nodes}
+use Rattle.bt_demand.specs.Tree.{Tree, leaf, drop, reject, all, first, hold, none, more}
+use Rattle.bt_demand.specs.WellFormed.{leaves, nodes}
 use Rattle.bt_demand.specs.declared.demand.Stage.{Stage}
 use Rattle.bt_demand.specs.declared.demand.Stage.TheVariants.{Untried as Idle, Waiting, Released}
 use Rattle.bt_demand.specs.declared.demand.State.{State}

@@ -1,5 +1,5 @@
 -- Each change of a demand leaves less to change.
-use Rattle.std.proofs.Common.{◌≡◌, ℕ, ◌+◌, ◌<◌, ◌≤◌, Bool, true, false, cond, eqb, Option, Some, None, ◌⊎◌, inl, inr, arith, refl, ap, eq-eqb}
+use Rattle.std.proofs.Common.{◌≡◌, ℕ, ◌+◌, ◌<◌, ◌≤◌, Bool, true, false, cond, eqb, Option, Some, None, ◌⊎◌, inl, inr, arith, eq-eqb}
 use Rattle.bt_demand.specs.Tree.{Tree, Trees, leaf, drop, reject, all, first, hold, none, more}
 use Rattle.bt_demand.specs.Steps.{settle, settle_each, wait, wait_each, release, release_each, state_for, settles, waits, releases}
 use Rattle.bt_demand.specs.Next.{todo, todo_of_all, todo_of_first, both, fallback, todo_of_leaf, todo_of_hold}
@@ -75,7 +75,7 @@ mutual
   settle_all_less l k a (more t ts) e =
       let p = settle_no_more l a t in let q = settle_all_no_more l a ts in
       elim (both_put (todo t) (todo_of_all ts) l k e) [
-        inl h ↦ (let i = settle_less l k a t h in omega arith)
+        | inl h ↦ (let i = settle_less l k a t h in omega arith)
         | inr h ↦ (let i = settle_all_less l k a ts h in omega arith)
       ]
 
@@ -84,7 +84,7 @@ mutual
   settle_first_less l k a (more t ts) e =
       let p = settle_no_more l a t in let q = settle_all_no_more l a ts in
       elim (fallback_put (todo t) (todo_of_first ts) l k e) [
-        inl h ↦ (let i = settle_less l k a t h in omega arith)
+        | inl h ↦ (let i = settle_less l k a t h in omega arith)
         | inr h ↦ (let i = settle_first_less l k a ts h in omega arith)
       ]
 
@@ -169,7 +169,7 @@ mutual
   wait_all_less l (more t ts) e =
       let p = wait_no_more l t in let q = wait_all_no_more l ts in
       elim (both_wait (todo t) (todo_of_all ts) l e) [
-        inl h ↦ (let i = wait_less l t h in omega arith)
+        | inl h ↦ (let i = wait_less l t h in omega arith)
         | inr h ↦ (let i = wait_all_less l ts h in omega arith)
       ]
 
@@ -178,7 +178,7 @@ mutual
   wait_first_less l (more t ts) e =
       let p = wait_no_more l t in let q = wait_all_no_more l ts in
       elim (fallback_wait (todo t) (todo_of_first ts) l e) [
-        inl h ↦ (let i = wait_less l t h in omega arith)
+        | inl h ↦ (let i = wait_less l t h in omega arith)
         | inr h ↦ (let i = wait_first_less l ts h in omega arith)
       ]
 

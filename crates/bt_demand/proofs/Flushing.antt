@@ -1,5 +1,5 @@
 -- While the holds from number n on are released, no hold up to n begins to wait.
-use Rattle.std.proofs.Common.{◌≡◌, ℕ, ◌+◌, ◌<◌, ◌≤◌, Bool, true, false, cond, eqb, List, Option, Some, None, ◌⊎◌, inl, inr, arith, refl, sym, ap, ◌∙◌, ltb}
+use Rattle.std.proofs.Common.{◌≡◌, ℕ, ◌<◌, ◌≤◌, true, false, Option, Some, None, ◌⊎◌, inl, inr, arith, refl, sym, ap, ◌∙◌}
 use Rattle.std.proofs.lemmas.Bool.{cases_lt}
 use Rattle.bt_demand.specs.Tree.{Tree, Trees, leaf, drop, reject, all, first, hold, none, more}
 use Rattle.bt_demand.specs.Outcomes.{outcome, outcome_of_all, outcome_of_first, outcome_of_both, outcome_or_else, outcome_of_hold, outcome_of_state}
@@ -315,7 +315,7 @@ mutual
   open_waits_all n (more t ts) o s e =
       let p = both_still (todo t) (todo_of_all ts) s in
       elim (all_open_parts (outcome t) (outcome_of_all ts) e) [
-        inl h ↦ (let w = open_waits n t o.0 p.0 h in (w.0, (inl w.1.0, λ b. inl (w.1.1 b))))
+        | inl h ↦ (let w = open_waits n t o.0 p.0 h in (w.0, (inl w.1.0, λ b. inl (w.1.1 b))))
         | inr h ↦ (let w = open_waits_all n ts o.1 p.1 h in (w.0, (inr w.1.0, λ b. inr (w.1.1 b))))
       ]
 
@@ -324,7 +324,7 @@ mutual
   open_waits_first n (more t ts) o s e =
       let p = fallback_still (todo t) (todo_of_first ts) s in
       elim (first_open_parts (outcome t) (outcome_of_first ts) e) [
-        inl h ↦ (let w = open_waits n t o.0 p.0 h in (w.0, (inl w.1.0, λ b. inl (w.1.1 b))))
+        | inl h ↦ (let w = open_waits n t o.0 p.0 h in (w.0, (inl w.1.0, λ b. inl (w.1.1 b))))
         | inr h ↦ (let w = open_waits_first n ts o.2 (p.1 (sym (outcome_todo t) ∙ h.0)) h.1 in (w.0, (inr w.1.0, λ b. inr (h.0, w.1.1 b))))
       ]
 
@@ -371,9 +371,11 @@ mutual
   pub late_still_first : (n : ℕ) (ts : Trees) → InOrderFirst ts → Still (todo_of_first ts) → LateFirst n ts
   late_still_first n none o s = tt
   late_still_first n (more t ts) o s =
-      let p = fallback_still (todo t) (todo_of_first ts) s in
-      (late_still n t o.0 p.0, elim (outcome_cases (outcome t)) [
-        inl h ↦ (let w = open_waits n t o.0 p.0 h in elim (cases_lt w.0 n) [ inl b ↦ inr (inl (w.1.1 b)) | inr b ↦ inr (inr (high_late_first n ts (high_all_lower n w.0 ts b (o.1 w.0 w.1.0)))) ])
-        | inr (inl h) ↦ inl h
-        | inr (inr h) ↦ inr (inr (late_still_first n ts o.2 (p.1 (sym (outcome_todo t) ∙ h))))
-      ])
+      let p = fallback_still (todo t) (todo_of_first ts) s in (
+        late_still n t o.0 p.0,
+        elim (outcome_cases (outcome t)) [
+          | inl h ↦ (let w = open_waits n t o.0 p.0 h in elim (cases_lt w.0 n) [ inl b ↦ inr (inl (w.1.1 b)) | inr b ↦ inr (inr (high_late_first n ts (high_all_lower n w.0 ts b (o.1 w.0 w.1.0)))) ])
+          | inr (inl h) ↦ inl h
+          | inr (inr h) ↦ inr (inr (late_still_first n ts o.2 (p.1 (sym (outcome_todo t) ∙ h))))
+        ],
+      )

@@ -1,9 +1,9 @@
 -- Each step of a demand is a move.
-use Rattle.std.proofs.Common.{◌≡◌, ℕ, ◌+◌, ◌<◌, ◌≤◌, Bool, true, false, cond, eqb, List, Option, Some, None, ◌⊎◌, inl, inr, arith, refl, sym, ap, ◌∙◌, ltb}
+use Rattle.std.proofs.Common.{◌≡◌, ℕ, ◌≤◌, Bool, true, false, cond, eqb, arith, refl}
 use Rattle.std.proofs.lemmas.Bool.{eqb-true}
 use Rattle.bt_demand.specs.Tree.{Tree, Trees, leaf, drop, reject, all, first, hold, none, more}
-use Rattle.bt_demand.specs.Flushing.{StateMoves, StageMoves, Moves, MovesAll, moves_leaf, moves_drop, moves_reject, moves_all, moves_first, moves_hold, moves_none, moves_more, IsHeld, Stuck, StuckAll, StuckFirst, IdleAbove, Late, LateAll, LateFirst, Still, High, HighAll, Has, HasAny, InOrder, InOrderAll, InOrderFirst}
-use Rattle.bt_demand.specs.Steps.{settle, settle_each, wait, wait_each, release, release_each, state_for, settles, waits, releases}
+use Rattle.bt_demand.specs.Flushing.{StateMoves, StageMoves, Moves, MovesAll, moves_leaf, moves_drop, moves_reject, moves_all, moves_first, moves_hold, moves_none, moves_more}
+use Rattle.bt_demand.specs.Steps.{settle, settle_each, wait, wait_each, release, release_each, settles, waits, releases}
 use Rattle.bt_demand.specs.declared.demand.State.{State}
 use Rattle.bt_demand.specs.declared.demand.State.TheVariants.{Untried as Fresh, Good, Bad}
 use Rattle.bt_demand.specs.declared.demand.Stage.{Stage}

@@ -1,8 +1,8 @@
 -- What is next is the first of what may start.
-use Rattle.std.proofs.Common.{◌≡◌, ℕ, Bool, true, false, List, [], ◌∷◌, ◌++◌, Option, Some, None, refl, sym, ap, ◌∙◌}
+use Rattle.std.proofs.Common.{◌≡◌, ℕ, Bool, true, false, List, [], ◌∷◌, ◌++◌, Option, Some, None, refl, ap, ◌∙◌}
 use Rattle.std.specs.Prelude.{if◌then◌else◌}
 use Rattle.bt_demand.specs.Next.{todo, todo_of_all, todo_of_first, both, fallback, todo_of_leaf, todo_of_hold}
-use Rattle.bt_demand.specs.Outcomes.{lost, is_lost, outcome, outcome_of_all, outcome_of_first, outcome_of_both, outcome_or_else, outcome_of_hold, outcome_of_state}
+use Rattle.bt_demand.specs.Outcomes.{is_lost, outcome, outcome_of_all, outcome_of_first, outcome_of_both, outcome_or_else, outcome_of_hold, outcome_of_state}
 use Rattle.bt_demand.specs.Startable.{Start, put, wait, put_if_untried, starts_at_hold, startable, startable_in, startable_after_lost, first_to_start}
 use Rattle.bt_demand.specs.Tree.{Tree, Trees, leaf, drop, reject, all, first, hold, none, more}
 use Rattle.bt_demand.specs.declared.demand.Stage.{Stage}
@@ -12,7 +12,7 @@ use Rattle.bt_demand.specs.declared.demand.State.TheVariants.{Untried as Fresh, 
 use Rattle.bt_demand.specs.declared.outcome.Outcome.{Outcome}
 use Rattle.bt_demand.specs.declared.outcome.Outcome.TheVariants.{Open, Met, Lost}
 use Rattle.bt_demand.specs.declared.todo.Todo.{Todo}
-use Rattle.bt_demand.specs.declared.todo.Todo.TheVariants.{Put, Wait, Settled}
+use Rattle.bt_demand.specs.declared.todo.Todo.TheVariants.{Settled}
 use Rattle.bt_demand.proofs.Outcomes.{outcome-lost}
 
 leaf-first : (n k : ℕ) (s : State) → todo_of_leaf n k s ≡ first_to_start (put_if_untried n k s) (outcome_of_state s)

@@ -1,5 +1,5 @@
 -- The outcome of a tree says in one word whether it is met and whether it is lost.
-use Rattle.std.proofs.Common.{◌≡◌, Bool, true, false, ◌&&◌, ◌||◌, refl, ap, ◌∙◌, sym}
+use Rattle.std.proofs.Common.{◌≡◌, Bool, true, false, ◌&&◌, ◌||◌, refl, ap, ◌∙◌}
 use Rattle.bt_demand.specs.Tree.{Tree, Trees, leaf, drop, reject, all, first, hold, none, more}
 use Rattle.bt_demand.specs.Outcomes.{met, lost, all_met, all_lost, all_settled, some_lost, met_after_lost, accepted, refused, is_released, is_met, is_lost, outcome, outcome_of_all, outcome_of_first, outcome_of_state, outcome_of_both, outcome_or_else, outcome_of_hold}
 use Rattle.bt_demand.specs.declared.demand.Stage.{Stage}

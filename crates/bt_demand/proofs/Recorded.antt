@@ -1,13 +1,13 @@
 -- A tree that agrees with the records of its leaves is settled as the records say.
-use Rattle.std.proofs.Common.{◌≡◌, ◌≢◌, ℕ, ◌+◌, ◌<◌, ◌≤◌, Bool, true, false, cond, eqb, List, Option, Some, None, ◌⊎◌, inl, inr, arith, refl, sym, ap, ◌∙◌, ltb, eq-eqb}
+use Rattle.std.proofs.Common.{◌≡◌, ℕ, Bool, true, false, cond, eqb, Option, Some, None, ◌⊎◌, inl, inr, refl, sym, ap, ◌∙◌}
 use Rattle.std.proofs.lemmas.Bool.{eqb-true}
 use Rattle.bt_demand.specs.Tree.{Tree, Trees, leaf, drop, reject, all, first, hold, none, more}
-use Rattle.bt_demand.specs.Outcomes.{outcome, outcome_of_all, outcome_of_first, outcome_of_both, outcome_or_else, outcome_of_hold, outcome_of_state}
+use Rattle.bt_demand.specs.Outcomes.{outcome, outcome_of_all, outcome_of_first, outcome_of_hold, outcome_of_state}
 use Rattle.bt_demand.specs.declared.outcome.Outcome.{Outcome}
 use Rattle.bt_demand.specs.declared.outcome.Outcome.TheVariants.{Open, Met, Lost}
 use Rattle.bt_demand.specs.Recorded.{recorded, recorded_in, untried, untried_in, Agree, AgreeAll, with_record, Grows}
-use Rattle.bt_demand.specs.Steps.{settle, settle_each, state_for, settles}
-use Rattle.bt_demand.specs.Next.{todo, todo_of_all, todo_of_first, both, fallback, todo_of_leaf, todo_of_hold, outcome_after}
+use Rattle.bt_demand.specs.Steps.{settle, settle_each, settles}
+use Rattle.bt_demand.specs.Next.{todo, todo_of_all, todo_of_first, both, fallback, todo_of_leaf, todo_of_hold}
 use Rattle.bt_demand.specs.declared.todo.Todo.{Todo}
 use Rattle.bt_demand.specs.declared.todo.Todo.TheVariants.{Put, Wait, Settled}
 use Rattle.bt_demand.specs.declared.demand.State.{State}

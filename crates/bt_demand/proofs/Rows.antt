@@ -1,6 +1,6 @@
-use Rattle.std.proofs.Common.{◌≡◌, ℕ, ◌<◌, suc, List, [], ◌∷◌, ap, refl, rules, drop, get_or, length, drop-cons, ◌∙◌, ◌+◌}
+use Rattle.std.proofs.Common.{◌≡◌, ℕ, ◌<◌, suc, List, [], ◌∷◌, ap, refl, rules, drop, get_or, length, drop-cons}
 use Rattle.std.proofs.Common.{arith}
-use Rattle.bt_demand.specs.Tree.{Tree, Trees, none, more}
+use Rattle.bt_demand.specs.Tree.{more}
 use Rattle.bt_demand.specs.Outcomes.{outcome_of_both}
 use Rattle.bt_demand.specs.declared.outcome.Outcome.{Outcome}
 use Rattle.bt_demand.specs.declared.outcome.Outcome.TheVariants.{Open, Met, Lost}
@@ -107,4 +107,3 @@ release_each-pointwise (x ∷ xs) (y ∷ ys) n e h =
     let here : tree x ≡ release n (tree y) = h 0 x (omega arith) in
     let there : trees xs ≡ release_each n (trees ys) = release_each-pointwise xs ys n (omega arith) (λ k d w. h (suc k) d (omega arith)) in
     cc
-

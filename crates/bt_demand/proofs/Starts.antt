@@ -1,5 +1,5 @@
 -- What is next for two, where one of them starts or neither does.
-use Rattle.std.proofs.Common.{◌≡◌, Bool, true, false, Option, Some, None, refl}
+use Rattle.std.proofs.Common.{◌≡◌, true, false, Option, Some, None, refl}
 use Rattle.bt_demand.specs.Next.{both, starts}
 use Rattle.bt_demand.specs.declared.todo.Todo.{Todo}
 use Rattle.bt_demand.specs.declared.todo.Todo.TheVariants.{Put, Wait, Settled}

@@ -7,8 +7,7 @@ use Rattle.bt_demand.specs.declared.outcome.Outcome.{Outcome}
 use Rattle.bt_demand.specs.declared.outcome.Outcome.TheVariants.{Open, Met, Lost}
 use Rattle.bt_demand.specs.declared.demand.State.{State}
 use Rattle.bt_demand.specs.declared.demand.State.TheVariants.{Untried as Fresh, Good, Bad}
-use Rattle.bt_demand.specs.declared.demand.Stage.{Stage}
-use Rattle.bt_demand.specs.declared.demand.Stage.TheVariants.{Untried as Idle, Waiting, Released}
+use Rattle.bt_demand.specs.declared.demand.Stage.TheVariants.{Untried as Idle, Released}
 
 -- what is settled stays settled in the same way
 abbrev pub Grows : Outcome → Outcome → Type 0

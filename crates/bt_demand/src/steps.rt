@@ -65,7 +65,10 @@ impl Demand {
             Demand::All(children) => children.wait_each(number),
             Demand::First(children) => children.wait_each(number),
             Demand::Hold {
-                node, child, stage, ..
+                node,
+                child,
+                stage,
+                ..
             } => {
                 child.wait_in(number);
                 if *node == number {
@@ -97,7 +100,10 @@ impl Demand {
             Demand::All(children) => children.release_each(number),
             Demand::First(children) => children.release_each(number),
             Demand::Hold {
-                node, child, stage, ..
+                node,
+                child,
+                stage,
+                ..
             } => {
                 child.release_hold(number);
                 if *node == number {
@@ -145,13 +151,7 @@ impl State {
         ensures { result ≡ settles (state_for accepted) self }
     {
         match self {
-            State::Untried => {
-                if accepted {
-                    State::Good
-                } else {
-                    State::Bad
-                }
-            }
+            State::Untried => { if accepted { State::Good } else { State::Bad } }
             State::Good => State::Good,
             State::Bad => State::Bad,
         }

@@ -102,7 +102,10 @@ fn leaves_and_holds_are_found_by_their_numbers(rt: HostRuntime) -> Result<(), Fa
     let demand = walked(rt.alloc())?;
     assert_eq!(rt; demand.bytes_of(2), Some(b"text".as_slice()));
     assert_eq!(rt; demand.bytes_of(3), None);
-    assert_eq!(rt; demand.todo_below(3), Some(Some(Todo::Put { leaf: 2, sink: 7 })));
+    assert_eq!(rt;
+        demand.todo_below(3),
+        Some(Some(Todo::Put { leaf: 2, sink: 7 }))
+    );
     assert_eq!(rt; demand.todo_below(2), None);
     assert!(rt; demand.leaf_below(3, 2));
     assert!(rt; !demand.leaf_below(3, 1));
@@ -111,7 +114,11 @@ fn leaves_and_holds_are_found_by_their_numbers(rt: HostRuntime) -> Result<(), Fa
 
 #[test]
 fn the_text_is_that_of_the_reject_that_decides(rt: HostRuntime) -> Result<(), Fail> {
-    let tiers = Demand::First(two(rt.alloc(), reject(rt.alloc(), "one")?, reject(rt.alloc(), "two")?)?);
+    let tiers = Demand::First(two(
+        rt.alloc(),
+        reject(rt.alloc(), "one")?,
+        reject(rt.alloc(), "two")?,
+    )?);
     let all = Demand::All(two(rt.alloc(), Demand::Drop, tiers)?);
     let demand = Demand::All(two(rt.alloc(), all, reject(rt.alloc(), "three")?)?);
     assert_eq!(rt; demand.todo(), Some(Todo::Settled { met: false }));

@@ -36,7 +36,12 @@ impl Demand {
         ensures { result ≡ todo (tree self.now) }
     {
         match self {
-            Demand::Leaf { leaf, sink, state, .. } => match state {
+            Demand::Leaf {
+                leaf,
+                sink,
+                state,
+                ..
+            } => match state {
                 State::Untried => Some(Todo::Put {
                     leaf: *leaf,
                     sink: *sink,
@@ -49,7 +54,10 @@ impl Demand {
             Demand::All(children) => children.todo_of_all(),
             Demand::First(children) => children.todo_of_first(),
             Demand::Hold {
-                node, child, stage, ..
+                node,
+                child,
+                stage,
+                ..
             } => match stage {
                 Stage::Untried => Some(Todo::Wait { node: *node }),
                 Stage::Waiting => None,

@@ -1,5 +1,5 @@
-use Rattle.std.proofs.Common.{◌≡◌, ℕ, ◌+◌, drop, Bool}
-use Rattle.bt_demand.specs.View.{tree, trees}
+use Rattle.std.proofs.Common.{◌≡◌, drop}
+use Rattle.bt_demand.specs.View.{trees}
 use Rattle.bt_demand.specs.Find.{some_begun}
 use Rattle.bt_demand.proofs.demand.+begun.Given as goal
 

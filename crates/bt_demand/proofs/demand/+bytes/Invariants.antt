@@ -1,6 +1,6 @@
-use Rattle.std.proofs.Common.{◌≡◌, ℕ, drop}
-use Rattle.bt_demand.specs.View.{tree, trees}
-use Rattle.bt_demand.specs.Find.{bytes_of, bytes_in}
+use Rattle.std.proofs.Common.{◌≡◌, drop}
+use Rattle.bt_demand.specs.View.{trees}
+use Rattle.bt_demand.specs.Find.{bytes_in}
 use Rattle.bt_demand.proofs.demand.+bytes.Given as goal
 
 abbrev pub invariant-Demands::bytes_in-loop-d : goal.invariant-Demands::bytes_in-loop-d

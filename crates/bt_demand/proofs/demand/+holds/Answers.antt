@@ -15,6 +15,6 @@ pub Demands::holds_in-returns : goal.Demands::holds_in-returns
 Demands::holds_in-returns t c =
     let end : length c.args.self.now.list.items ≤ c.loop-d.d-index = omega (arith, c.loop-d-test.false, ap length c.deref-d-items.ensures.value) in
     let none_left : holds_in (trees (drop c.loop-d.d-index c.args.self.now.list.items)) ≡ 0 =
-      at_drop_all (λ ds. holds_in (trees ds)) c.args.self.now.list.items c.loop-d.d-index end
+    at_drop_all (λ ds. holds_in (trees ds)) c.args.self.now.list.items c.loop-d.d-index end
     in
     omega (arith, c.loop-d.invariant.count, c.loop-d.invariant.fits, none_left)

@@ -1,5 +1,5 @@
-use Rattle.std.proofs.Common.{◌≡◌, ℕ, ◌+◌, drop, Bool}
-use Rattle.bt_demand.specs.View.{tree, trees}
+use Rattle.std.proofs.Common.{◌≡◌, drop}
+use Rattle.bt_demand.specs.View.{trees}
 use Rattle.bt_demand.specs.Reasons.{lesser, least_refused_in}
 use Rattle.bt_demand.proofs.demand.+refused.Given as goal
 

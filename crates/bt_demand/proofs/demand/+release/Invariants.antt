@@ -6,6 +6,6 @@ use Rattle.bt_demand.proofs.demand.+release.Given as goal
 
 abbrev pub invariant-Demands::release_each-loop-i : goal.invariant-Demands::release_each-loop-i
 invariant-Demands::release_each-loop-i l = record {
-    unvisited : goal.unvisited-Demands::release_each-loop-i l;
-    done : (k : ℕ) (d : Demand) → k < l.i → tree (get_or l.self.list.items k d) ≡ release l.number (tree (get_or l.initial.self.list.items k d));
-  }
+  unvisited : goal.unvisited-Demands::release_each-loop-i l;
+  done : (k : ℕ) (d : Demand) → k < l.i → tree (get_or l.self.list.items k d) ≡ release l.number (tree (get_or l.initial.self.list.items k d));
+}

@@ -1,4 +1,4 @@
-use Rattle.std.proofs.Common.{rules, ℕ, arith}
+use Rattle.std.proofs.Common.{rules, arith}
 use Rattle.bt_demand.proofs.Rows.{tree-All, tree-First, settle_each-pointwise}
 use Rattle.bt_demand.proofs.demand.+settle.Goals as goal
 

@@ -1,6 +1,5 @@
 use Rattle.std.proofs.Common.{rules}
 use Rattle.bt_demand.proofs.Rows.{tree-All, tree-First}
-use Rattle.bt_demand.proofs.Starts.{both-starts, both-quiet}
 use Rattle.bt_demand.proofs.demand.+todo.Goals as goal
 
 pub Demand::next-returns-in-All : goal.Demand::next-returns-in-All

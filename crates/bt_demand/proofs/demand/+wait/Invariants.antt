@@ -6,6 +6,6 @@ use Rattle.bt_demand.proofs.demand.+wait.Given as goal
 
 abbrev pub invariant-Demands::wait_each-loop-i : goal.invariant-Demands::wait_each-loop-i
 invariant-Demands::wait_each-loop-i l = record {
-    unvisited : goal.unvisited-Demands::wait_each-loop-i l;
-    done : (k : ℕ) (d : Demand) → k < l.i → tree (get_or l.self.list.items k d) ≡ wait l.number (tree (get_or l.initial.self.list.items k d));
-  }
+  unvisited : goal.unvisited-Demands::wait_each-loop-i l;
+  done : (k : ℕ) (d : Demand) → k < l.i → tree (get_or l.self.list.items k d) ≡ wait l.number (tree (get_or l.initial.self.list.items k d));
+}

@@ -9,8 +9,8 @@ use Rattle.bt_demand.proofs.demand.Demand.release.Goals as goal
 pub returns-clause-falls : goal.returns-clause-falls
 returns-clause-falls c =
     λ waits.
-      let less = release_less c.args.number (tree c.args.self.now) waits in
-      omega (arith, less, ap work c.release_hold.ensures)
+    let less = release_less c.args.number (tree c.args.self.now) waits in
+    omega (arith, less, ap work c.release_hold.ensures)
 
 pub returns-clause-stays : goal.returns-clause-stays
 returns-clause-stays c = rw c.release_hold.ensures (outcome_grows 0 _ _ (release_steps 0 c.args.number (tree c.args.self.now) (omega arith)))

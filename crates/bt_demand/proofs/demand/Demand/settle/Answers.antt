@@ -10,8 +10,8 @@ use Rattle.bt_demand.proofs.demand.Demand.settle.Goals as goal
 pub returns-clause-falls : goal.returns-clause-falls
 returns-clause-falls c =
     λ sink next.
-      let less = settle_less c.args.number sink c.args.accepted (tree c.args.self.now) next in
-      omega (arith, less, ap work c.settle_leaf.ensures)
+    let less = settle_less c.args.number sink c.args.accepted (tree c.args.self.now) next in
+    omega (arith, less, ap work c.settle_leaf.ensures)
 
 pub returns-clause-stays : goal.returns-clause-stays
 returns-clause-stays c = rw c.settle_leaf.ensures (outcome_grows 0 _ _ (settle_steps 0 c.args.number (state_for c.args.accepted) (tree c.args.self.now)))

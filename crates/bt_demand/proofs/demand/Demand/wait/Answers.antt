@@ -9,8 +9,8 @@ use Rattle.bt_demand.proofs.demand.Demand.wait.Goals as goal
 pub returns-clause-falls : goal.returns-clause-falls
 returns-clause-falls c =
     λ next.
-      let less = wait_less c.args.number (tree c.args.self.now) next in
-      omega (arith, less, ap work c.wait_in.ensures)
+    let less = wait_less c.args.number (tree c.args.self.now) next in
+    omega (arith, less, ap work c.wait_in.ensures)
 
 pub returns-clause-stays : goal.returns-clause-stays
 returns-clause-stays c = rw c.wait_in.ensures (outcome_grows 0 _ _ (wait_steps 0 c.args.number (tree c.args.self.now)))
