@@ -4,6 +4,7 @@ pub mod Flushing
 pub mod Moves
 pub mod NextSettles
 pub mod NextStarts
+pub mod Order
 pub mod Outcomes
 pub mod Reasons
 pub mod Recorded

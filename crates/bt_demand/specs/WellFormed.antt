@@ -1,7 +1,6 @@
 -- What a demand must be before anything of it is tried.
 use Rattle.std.specs.Prelude.{◌≡◌, ℕ, ◌<◌, ◌≤◌, eqb, false, List, [], ◌∷◌, ◌++◌}
-use Rattle.std.specs.List.{All, IsDistinct}
-use Rattle.std.specs.List.Sorted.{IsStrictlyIncreasing}
+use Rattle.std.specs.List.{All, AllByRecursion, IsDistinct}
 use Rattle.bt_demand.specs.Find.{begun}
 use Rattle.bt_demand.specs.Holds.{holds}
 use Rattle.bt_demand.specs.Tree.{Tree, Trees, leaf, drop, reject, all, first, hold, none, more}
@@ -48,6 +47,11 @@ abbrev mutual
   nodes_in none = []
   nodes_in (more t ts) = nodes t ++ nodes_in ts
 
+-- each number is below those after it
+abbrev pub Rises : List ℕ → Type 0
+Rises [] = Unit {0}
+Rises (x ∷ xs) = AllByRecursion (λ y. x < y) xs × Rises xs
+
 abbrev mutual
   -- no hold stands below a hold
   pub IsFlat : Tree → Type 0
@@ -86,7 +90,7 @@ pub record WellFormed (sink_count : ℕ) (hold_count : ℕ) (t : Tree) : Type 0 
   pub leaves_differ : IsDistinct eqb (leaves t)
   pub sinks_known : All (λ k. k < sink_count) (sinks t)
   pub holds_known : All (λ n. n < hold_count) (nodes t)
-  pub holds_rise : IsStrictlyIncreasing (nodes t)
+  pub holds_rise : Rises (nodes t)
   pub holds_flat : IsFlat t
   pub firsts_have_children : FirstsHaveChildren t
   pub few_holds : holds t ≤ 64
