@@ -64,7 +64,7 @@ held_stays n m Waiting Waiting p q = q
 held_stays n m Waiting Released p q = absurd (omega arith)
 held_stays n m Released h p q = absurd q
 
-lost_stays : (a b : Outcome) → Grows a b → a ≡ Lost → b ≡ Lost
+pub lost_stays : (a b : Outcome) → Grows a b → a ≡ Lost → b ≡ Lost
 lost_stays Open b p e = cc
 lost_stays Met b p e = cc
 lost_stays Lost b p e = p

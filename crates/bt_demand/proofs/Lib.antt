@@ -1,6 +1,7 @@
 pub mod Examples
 pub mod Falls
 pub mod Flushing
+pub mod Lists
 pub mod Moves
 pub mod NextSettles
 pub mod NextStarts
@@ -10,3 +11,4 @@ pub mod Reasons
 pub mod Recorded
 pub mod Rows
 pub mod Starts
+pub mod Untouched

@@ -4,39 +4,19 @@ use Rattle.std.specs.List.{AllByRecursion}
 use Rattle.bt_demand.specs.Flushing.{High, HighAll, Has, HasAny, InOrder, InOrderAll, InOrderFirst}
 use Rattle.bt_demand.specs.Tree.{Tree, Trees, leaf, drop, reject, all, first, hold, none, more}
 use Rattle.bt_demand.specs.WellFormed.{WellFormed, nodes, nodes_in, Rises, IsFlat, AreFlat}
+use Rattle.bt_demand.proofs.Lists.{InList, in-left, in-right, all-left, all-right}
 use Rattle.bt_demand.specs.declared.demand.Stage.{Stage}
 use Rattle.bt_demand.specs.declared.demand.State.{State}
-
-abbrev InList : ℕ → List ℕ → Type 0
-InList m [] = ⊥
-InList m (x ∷ xs) = (m ≡ x) ⊎ InList m xs
-
-in-left : (m : ℕ) (xs ys : List ℕ) → InList m xs → InList m (xs ++ ys)
-in-left m [] ys h = absurd h
-in-left m (x ∷ xs) ys (inl e) = inl e
-in-left m (x ∷ xs) ys (inr h) = inr (in-left m xs ys h)
-
-in-right : (m : ℕ) (xs ys : List ℕ) → InList m ys → InList m (xs ++ ys)
-in-right m [] ys h = h
-in-right m (x ∷ xs) ys h = inr (in-right m xs ys h)
-
-all-left : (n : ℕ) (xs ys : List ℕ) → AllByRecursion (λ j. n < j) (xs ++ ys) → AllByRecursion (λ j. n < j) xs
-all-left n [] ys h = tt
-all-left n (x ∷ xs) ys h = (h.0, all-left n xs ys h.1)
-
-all-right : (n : ℕ) (xs ys : List ℕ) → AllByRecursion (λ j. n < j) (xs ++ ys) → AllByRecursion (λ j. n < j) ys
-all-right n [] ys h = h
-all-right n (x ∷ xs) ys h = all-right n xs ys h.1
 
 -- of two lists that rise together, the numbers of the second are above each of the first
 rises-across : (m : ℕ) (xs ys : List ℕ) → Rises (xs ++ ys) → InList m xs → AllByRecursion (λ j. m < j) ys
 rises-across m [] ys r h = absurd h
-rises-across m (x ∷ xs) ys r (inl e) = rw e (all-right x xs ys r.0)
+rises-across m (x ∷ xs) ys r (inl e) = rw e (all-right (λ y. x < y) xs ys r.0)
 rises-across m (x ∷ xs) ys r (inr h) = rises-across m xs ys r.1 h
 
 rises-left : (xs ys : List ℕ) → Rises (xs ++ ys) → Rises xs
 rises-left [] ys r = tt
-rises-left (x ∷ xs) ys r = (all-left x xs ys r.0, rises-left xs ys r.1)
+rises-left (x ∷ xs) ys r = (all-left (λ y. x < y) xs ys r.0, rises-left xs ys r.1)
 
 rises-right : (xs ys : List ℕ) → Rises (xs ++ ys) → Rises ys
 rises-right [] ys r = r
@@ -68,7 +48,7 @@ mutual
 
   high-nodes-in : (n : ℕ) (ts : Trees) → AllByRecursion (λ j. n < j) (nodes_in ts) → HighAll n ts
   high-nodes-in n none h = tt
-  high-nodes-in n (more t ts) h = (high-nodes n t (all-left n (nodes t) (nodes_in ts) h), high-nodes-in n ts (all-right n (nodes t) (nodes_in ts) h))
+  high-nodes-in n (more t ts) h = (high-nodes n t (all-left (λ j. n < j) (nodes t) (nodes_in ts) h), high-nodes-in n ts (all-right (λ j. n < j) (nodes t) (nodes_in ts) h))
 
 none-in : (m : ℕ) (xs : List ℕ) → xs ≡ [] → InList m xs → ⊥
 none-in m [] e h = h

@@ -9,6 +9,7 @@ pub mod Recorded
 pub mod Startable
 pub mod Steps
 pub mod Tree
+pub mod Untouched
 pub mod View
 pub mod WellFormed
 pub mod Work

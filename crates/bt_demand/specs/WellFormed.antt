@@ -1,6 +1,6 @@
 -- What a demand must be before anything of it is tried.
-use Rattle.std.specs.Prelude.{◌≡◌, ℕ, ◌<◌, ◌≤◌, eqb, false, List, [], ◌∷◌, ◌++◌}
-use Rattle.std.specs.List.{All, AllByRecursion, IsDistinct}
+use Rattle.std.specs.Prelude.{◌≡◌, ◌≢◌, ℕ, ◌<◌, ◌≤◌, false, List, [], ◌∷◌, ◌++◌}
+use Rattle.std.specs.List.{All, AllByRecursion}
 use Rattle.bt_demand.specs.Find.{begun}
 use Rattle.bt_demand.specs.Holds.{holds}
 use Rattle.bt_demand.specs.Tree.{Tree, Trees, leaf, drop, reject, all, first, hold, none, more}
@@ -47,6 +47,11 @@ abbrev mutual
   nodes_in none = []
   nodes_in (more t ts) = nodes t ++ nodes_in ts
 
+-- each number differs from those after it
+abbrev pub Differ : List ℕ → Type 0
+Differ [] = Unit {0}
+Differ (x ∷ xs) = AllByRecursion (λ y. x ≢ y) xs × Differ xs
+
 -- each number is below those after it
 abbrev pub Rises : List ℕ → Type 0
 Rises [] = Unit {0}
@@ -87,7 +92,7 @@ abbrev mutual
 -- a demand for so many sinks and so many holds, of which nothing was tried
 pub record WellFormed (sink_count : ℕ) (hold_count : ℕ) (t : Tree) : Type 0 where
   pub untried : begun t ≡ false
-  pub leaves_differ : IsDistinct eqb (leaves t)
+  pub leaves_differ : Differ (leaves t)
   pub sinks_known : All (λ k. k < sink_count) (sinks t)
   pub holds_known : All (λ n. n < hold_count) (nodes t)
   pub holds_rise : Rises (nodes t)
