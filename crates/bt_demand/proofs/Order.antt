@@ -9,16 +9,16 @@ use Rattle.bt_demand.specs.declared.demand.Stage.{Stage}
 use Rattle.bt_demand.specs.declared.demand.State.{State}
 
 -- of two lists that rise together, the numbers of the second are above each of the first
-rises-across : (m : ℕ) (xs ys : List ℕ) → Rises (xs ++ ys) → InList m xs → AllByRecursion (λ j. m < j) ys
+pub rises-across : (m : ℕ) (xs ys : List ℕ) → Rises (xs ++ ys) → InList m xs → AllByRecursion (λ j. m < j) ys
 rises-across m [] ys r h = absurd h
 rises-across m (x ∷ xs) ys r (inl e) = rw e (all-right (λ y. x < y) xs ys r.0)
 rises-across m (x ∷ xs) ys r (inr h) = rises-across m xs ys r.1 h
 
-rises-left : (xs ys : List ℕ) → Rises (xs ++ ys) → Rises xs
+pub rises-left : (xs ys : List ℕ) → Rises (xs ++ ys) → Rises xs
 rises-left [] ys r = tt
 rises-left (x ∷ xs) ys r = (all-left (λ y. x < y) xs ys r.0, rises-left xs ys r.1)
 
-rises-right : (xs ys : List ℕ) → Rises (xs ++ ys) → Rises ys
+pub rises-right : (xs ys : List ℕ) → Rises (xs ++ ys) → Rises ys
 rises-right [] ys r = r
 rises-right (x ∷ xs) ys r = rises-right xs ys r.1
 
