@@ -1,14 +1,16 @@
 //! The steps of a demand, written down in place. None of them takes memory.
 //!
-//! Each step that was next lowers the work that is left, so that a run of steps ends, and what is settled stays settled
-//! in the same way.
+//! Each step that was next lowers the work that is left, so that a run of steps ends. What is settled stays settled in
+//! the same way, and what isn't asked stays untouched.
 ghost use Rattle.std.specs.Prelude.{◌≡◌, ℕ, ◌<◌, Some};
 ghost use Rattle.bt_demand.specs.Next.{todo};
 ghost use Rattle.bt_demand.specs.Outcomes.{outcome};
 ghost use Rattle.bt_demand.specs.Recorded.{Grows};
 ghost use Rattle.bt_demand.specs.Steps.{settle, settle_each, state_for, settles, wait, wait_each, waits, release, release_each, releases};
+ghost use Rattle.bt_demand.specs.WellFormed.{leaves, nodes, Differ, Rises};
 ghost use Rattle.bt_demand.specs.Work.{work, Waits};
 ghost use Rattle.bt_demand.specs.declared.todo.Todo.TheVariants.{Put, Wait};
+ghost use Rattle.bt_demand.specs.Untouched.{Untouched};
 ghost use Rattle.bt_demand.specs.View.{tree, trees};
 
 use crate::demand::{Demand, Demands, Stage, State};
@@ -21,6 +23,7 @@ impl Demand {
         ensures tree { tree self.new ≡ settle number (state_for accepted) (tree self.old) }
         ensures falls { (sink : ℕ) → todo (tree self.old) ≡ Some (Put number sink) → work (tree self.new) < work (tree self.old) }
         ensures stays { Grows (outcome (tree self.old)) (outcome (tree self.new)) }
+        ensures untouched { (sink : ℕ) → Differ (leaves (tree self.old)) → todo (tree self.old) ≡ Some (Put number sink) → Untouched (tree self.old) → Untouched (tree self.new) }
     {
         self.settle_leaf(number, accepted);
     }
@@ -50,6 +53,7 @@ impl Demand {
         ensures tree { tree self.new ≡ wait number (tree self.old) }
         ensures falls { todo (tree self.old) ≡ Some (Wait number) → work (tree self.new) < work (tree self.old) }
         ensures stays { Grows (outcome (tree self.old)) (outcome (tree self.new)) }
+        ensures untouched { Rises (nodes (tree self.old)) → todo (tree self.old) ≡ Some (Wait number) → Untouched (tree self.old) → Untouched (tree self.new) }
     {
         self.wait_in(number);
     }
@@ -85,6 +89,7 @@ impl Demand {
         ensures tree { tree self.new ≡ release number (tree self.old) }
         ensures falls { Waits number (tree self.old) → work (tree self.new) < work (tree self.old) }
         ensures stays { Grows (outcome (tree self.old)) (outcome (tree self.new)) }
+        ensures untouched { Untouched (tree self.old) → Untouched (tree self.new) }
     {
         self.release_hold(number);
     }
