@@ -4,6 +4,7 @@ use Rattle.bt_demand.specs.Tree.{Tree, Trees, leaf, drop, reject, all, first, ho
 use Rattle.bt_demand.specs.Steps.{settle, settle_each, wait, wait_each, release, release_each, state_for, settles, waits, releases}
 use Rattle.bt_demand.specs.Next.{todo, todo_of_all, todo_of_first, both, fallback, todo_of_leaf, todo_of_hold}
 use Rattle.bt_demand.specs.Work.{work, work_all, work_of_state, work_of_stage, Waits, SomeWaits}
+use Rattle.bt_demand.proofs.Starts.{both-puts, else-puts, both-waits, else-waits, hold-put, leaf-never-waits}
 use Rattle.bt_demand.specs.declared.todo.Todo.{Todo}
 use Rattle.bt_demand.specs.declared.todo.Todo.TheVariants.{Put, Wait, Settled}
 use Rattle.bt_demand.specs.declared.demand.State.{State}
@@ -31,35 +32,11 @@ mutual
   settle_all_no_more l a none = omega arith
   settle_all_no_more l a (more t ts) = let h = settle_no_more l a t in let k = settle_all_no_more l a ts in omega arith
 
-both_put : (a b : Option Todo) (l k : ℕ) → both a b ≡ Some (Put l k) → (a ≡ Some (Put l k)) ⊎ (b ≡ Some (Put l k))
-both_put (Some (Put m j)) b l k e = inl e
-both_put (Some (Wait n)) b l k e = inl e
-both_put (Some (Settled m)) (Some (Put n j)) l k e = inr e
-both_put (Some (Settled m)) (Some (Wait n)) l k e = inr e
-both_put (Some (Settled m)) (Some (Settled n)) l k e = cc
-both_put (Some (Settled m)) None l k e = cc
-both_put None (Some (Put n j)) l k e = inr e
-both_put None (Some (Wait n)) l k e = inr e
-both_put None (Some (Settled n)) l k e = cc
-both_put None None l k e = cc
-
-fallback_put : (a b : Option Todo) (l k : ℕ) → fallback a b ≡ Some (Put l k) → (a ≡ Some (Put l k)) ⊎ (b ≡ Some (Put l k))
-fallback_put (Some (Put m j)) b l k e = inl e
-fallback_put (Some (Wait n)) b l k e = inl e
-fallback_put (Some (Settled true)) b l k e = inl e
-fallback_put (Some (Settled false)) b l k e = inr e
-fallback_put None b l k e = inl e
-
 leaf_less : (n l k m : ℕ) (x : State) (a : Bool) → todo_of_leaf n k x ≡ Some (Put l m) → work_of_state (cond (eqb n l) (settles (state_for a) x) x) < work_of_state x
 leaf_less n l k m Fresh true e = let s : n ≡ l = cc in rw (eq-eqb n l s) (omega arith)
 leaf_less n l k m Fresh false e = let s : n ≡ l = cc in rw (eq-eqb n l s) (omega arith)
 leaf_less n l k m Good a e = cc
 leaf_less n l k m Bad a e = cc
-
-hold_put : (n : ℕ) (g : Stage) (r : Option Todo) (l k : ℕ) → todo_of_hold n g r ≡ Some (Put l k) → r ≡ Some (Put l k)
-hold_put n Idle r l k e = cc
-hold_put n Waiting r l k e = cc
-hold_put n Released r l k e = e
 
 mutual
   pub settle_less : (l k : ℕ) (a : Bool) (t : Tree) → todo t ≡ Some (Put l k) → work (settle l (state_for a) t) < work t
@@ -68,13 +45,13 @@ mutual
   settle_less l k a (reject w) e = cc
   settle_less l k a (all ts) e = settle_all_less l k a ts e
   settle_less l k a (first ts) e = settle_first_less l k a ts e
-  settle_less l k a (hold n e z c g) h = let i = settle_less l k a c (hold_put n g (todo c) l k h) in omega arith
+  settle_less l k a (hold n e z c g) h = let i = settle_less l k a c (hold-put n g (todo c) l k h).1 in omega arith
 
   pub settle_all_less : (l k : ℕ) (a : Bool) (ts : Trees) → todo_of_all ts ≡ Some (Put l k) → work_all (settle_each l (state_for a) ts) < work_all ts
   settle_all_less l k a none e = cc
   settle_all_less l k a (more t ts) e =
       let p = settle_no_more l a t in let q = settle_all_no_more l a ts in
-      elim (both_put (todo t) (todo_of_all ts) l k e) [
+      elim (both-puts (todo t) (todo_of_all ts) l k e) [
         | inl h ↦ (let i = settle_less l k a t h in omega arith)
         | inr h ↦ (let i = settle_all_less l k a ts h in omega arith)
       ]
@@ -83,9 +60,9 @@ mutual
   settle_first_less l k a none e = cc
   settle_first_less l k a (more t ts) e =
       let p = settle_no_more l a t in let q = settle_all_no_more l a ts in
-      elim (fallback_put (todo t) (todo_of_first ts) l k e) [
+      elim (else-puts (todo t) (todo_of_first ts) l k e) [
         | inl h ↦ (let i = settle_less l k a t h in omega arith)
-        | inr h ↦ (let i = settle_first_less l k a ts h in omega arith)
+        | inr h ↦ (let i = settle_first_less l k a ts h.1 in omega arith)
       ]
 
 hold_no_more : (b : Bool) (w : ℕ) (g : Stage) → w + work_of_stage (cond b (waits g) g) ≤ w + work_of_stage g
@@ -126,30 +103,6 @@ mutual
   wait_all_no_more l none = omega arith
   wait_all_no_more l (more t ts) = let h = wait_no_more l t in let k = wait_all_no_more l ts in omega arith
 
-both_wait : (a b : Option Todo) (l : ℕ) → both a b ≡ Some (Wait l) → (a ≡ Some (Wait l)) ⊎ (b ≡ Some (Wait l))
-both_wait (Some (Put m j)) b l e = inl e
-both_wait (Some (Wait n)) b l e = inl e
-both_wait (Some (Settled m)) (Some (Put n j)) l e = inr e
-both_wait (Some (Settled m)) (Some (Wait n)) l e = inr e
-both_wait (Some (Settled m)) (Some (Settled n)) l e = cc
-both_wait (Some (Settled m)) None l e = cc
-both_wait None (Some (Put n j)) l e = inr e
-both_wait None (Some (Wait n)) l e = inr e
-both_wait None (Some (Settled n)) l e = cc
-both_wait None None l e = cc
-
-fallback_wait : (a b : Option Todo) (l : ℕ) → fallback a b ≡ Some (Wait l) → (a ≡ Some (Wait l)) ⊎ (b ≡ Some (Wait l))
-fallback_wait (Some (Put m j)) b l e = inl e
-fallback_wait (Some (Wait n)) b l e = inl e
-fallback_wait (Some (Settled true)) b l e = inl e
-fallback_wait (Some (Settled false)) b l e = inr e
-fallback_wait None b l e = inl e
-
-leaf_waits : (n k l : ℕ) (x : State) → todo_of_leaf n k x ≡ Some (Wait l) → ⊥
-leaf_waits n k l Fresh e = cc
-leaf_waits n k l Good e = cc
-leaf_waits n k l Bad e = cc
-
 hold_less : (n l u v : ℕ) (g : Stage) (r : Option Todo) → todo_of_hold n g r ≡ Some (Wait l) → u ≤ v → (r ≡ Some (Wait l) → u < v) → u + work_of_stage (cond (eqb n l) (waits g) g) < v + work_of_stage g
 hold_less n l u v Idle r e h f = let s : n ≡ l = cc in rw (eq-eqb n l s) (omega arith)
 hold_less n l u v Waiting r e h f = cc
@@ -157,7 +110,7 @@ hold_less n l u v Released r e h f = let i : u < v = f e in let k = hold_no_more
 
 mutual
   pub wait_less : (l : ℕ) (t : Tree) → todo t ≡ Some (Wait l) → work (wait l t) < work t
-  wait_less l (leaf n j w x) e = absurd (leaf_waits n j l x e)
+  wait_less l (leaf n j w x) e = absurd (leaf-never-waits n j l x e)
   wait_less l drop e = cc
   wait_less l (reject w) e = cc
   wait_less l (all ts) e = wait_all_less l ts e
@@ -168,7 +121,7 @@ mutual
   wait_all_less l none e = cc
   wait_all_less l (more t ts) e =
       let p = wait_no_more l t in let q = wait_all_no_more l ts in
-      elim (both_wait (todo t) (todo_of_all ts) l e) [
+      elim (both-waits (todo t) (todo_of_all ts) l e) [
         | inl h ↦ (let i = wait_less l t h in omega arith)
         | inr h ↦ (let i = wait_all_less l ts h in omega arith)
       ]
@@ -177,9 +130,9 @@ mutual
   wait_first_less l none e = cc
   wait_first_less l (more t ts) e =
       let p = wait_no_more l t in let q = wait_all_no_more l ts in
-      elim (fallback_wait (todo t) (todo_of_first ts) l e) [
+      elim (else-waits (todo t) (todo_of_first ts) l e) [
         | inl h ↦ (let i = wait_less l t h in omega arith)
-        | inr h ↦ (let i = wait_first_less l ts h in omega arith)
+        | inr h ↦ (let i = wait_first_less l ts h.1 in omega arith)
       ]
 
 release_stage : (n m u v : ℕ) (g : Stage) → (n ≡ m) × (g ≡ Waiting) → u ≤ v → u + work_of_stage (cond (eqb n m) (releases g) g) < v + work_of_stage g

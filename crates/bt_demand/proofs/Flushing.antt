@@ -8,6 +8,7 @@ use Rattle.bt_demand.specs.declared.outcome.Outcome.TheVariants.{Open, Met, Lost
 use Rattle.bt_demand.specs.Flushing.{StateMoves, StageMoves, Moves, MovesAll, moves_leaf, moves_drop, moves_reject, moves_all, moves_first, moves_hold, moves_none, moves_more, IsHeld, Stuck, StuckAll, StuckFirst, IdleAbove, Late, LateAll, LateFirst, Still, High, HighAll, Has, HasAny, InOrder, InOrderAll, InOrderFirst}
 use Rattle.bt_demand.specs.Recorded.{Grows}
 use Rattle.bt_demand.specs.Next.{todo, todo_of_all, todo_of_first, both, fallback, todo_of_leaf, todo_of_hold, outcome_after}
+use Rattle.bt_demand.proofs.Starts.{both-puts, else-puts, both-waits, else-waits, hold-put, leaf-never-waits}
 use Rattle.bt_demand.specs.declared.todo.Todo.{Todo}
 use Rattle.bt_demand.specs.declared.todo.Todo.TheVariants.{Put, Wait, Settled}
 use Rattle.bt_demand.specs.declared.demand.State.{State}
@@ -152,30 +153,6 @@ mutual
   stuck_first_open n (more t ts) (inl s) = rw (stuck_open n t s) refl
   stuck_first_open n (more t ts) (inr s) = rw s.0 (stuck_first_open n ts s.1)
 
-both_waits : (a b : Option Todo) (l : ℕ) → both a b ≡ Some (Wait l) → (a ≡ Some (Wait l)) ⊎ (b ≡ Some (Wait l))
-both_waits (Some (Put m j)) b l e = inl e
-both_waits (Some (Wait n)) b l e = inl e
-both_waits (Some (Settled m)) (Some (Put n j)) l e = inr e
-both_waits (Some (Settled m)) (Some (Wait n)) l e = inr e
-both_waits (Some (Settled m)) (Some (Settled n)) l e = cc
-both_waits (Some (Settled m)) None l e = cc
-both_waits None (Some (Put n j)) l e = inr e
-both_waits None (Some (Wait n)) l e = inr e
-both_waits None (Some (Settled n)) l e = cc
-both_waits None None l e = cc
-
-fallback_waits : (a b : Option Todo) (l : ℕ) → fallback a b ≡ Some (Wait l) → (a ≡ Some (Wait l)) ⊎ ((a ≡ Some (Settled false)) × (b ≡ Some (Wait l)))
-fallback_waits (Some (Put m j)) b l e = inl e
-fallback_waits (Some (Wait n)) b l e = inl e
-fallback_waits (Some (Settled true)) b l e = cc
-fallback_waits (Some (Settled false)) b l e = inr (refl, e)
-fallback_waits None b l e = cc
-
-leaf_never : (n k l : ℕ) (x : State) → todo_of_leaf n k x ≡ Some (Wait l) → ⊥
-leaf_never n k l Fresh e = cc
-leaf_never n k l Good e = cc
-leaf_never n k l Bad e = cc
-
 hold_waits : (n m l : ℕ) (g : Stage) (r : Option Todo) → todo_of_hold m g r ≡ Some (Wait l) → IdleAbove n m g → (r ≡ Some (Wait l) → n < l) → n < l
 hold_waits n m l Idle r e h f = let s : m ≡ l = cc in omega arith
 hold_waits n m l Waiting r e h f = cc
@@ -190,7 +167,7 @@ open_lost e = cc
 -- a hold that begins to wait has a number above n
 mutual
   pub late_next : (n m : ℕ) (t : Tree) → Late n t → todo t ≡ Some (Wait m) → n < m
-  late_next n m (leaf l k b x) s e = absurd (leaf_never l k m x e)
+  late_next n m (leaf l k b x) s e = absurd (leaf-never-waits l k m x e)
   late_next n m drop s e = cc
   late_next n m (reject w) s e = cc
   late_next n m (all ts) s e = late_all_next n m ts s e
@@ -199,13 +176,13 @@ mutual
 
   pub late_all_next : (n m : ℕ) (ts : Trees) → LateAll n ts → todo_of_all ts ≡ Some (Wait m) → n < m
   late_all_next n m none s e = cc
-  late_all_next n m (more t ts) s e = elim (both_waits (todo t) (todo_of_all ts) m e) [ inl h ↦ late_next n m t s.0 h | inr h ↦ late_all_next n m ts s.1 h ]
+  late_all_next n m (more t ts) s e = elim (both-waits (todo t) (todo_of_all ts) m e) [ inl h ↦ late_next n m t s.0 h | inr h ↦ late_all_next n m ts s.1 h ]
 
   pub late_first_next : (n m : ℕ) (ts : Trees) → LateFirst n ts → todo_of_first ts ≡ Some (Wait m) → n < m
   late_first_next n m none s e = cc
-  late_first_next n m (more t ts) (s, inr (inr r)) e = elim (fallback_waits (todo t) (todo_of_first ts) m e) [ inl h ↦ late_next n m t s h | inr h ↦ late_first_next n m ts r h.1 ]
-  late_first_next n m (more t ts) (s, inl r) e = elim (fallback_waits (todo t) (todo_of_first ts) m e) [ inl h ↦ late_next n m t s h | inr h ↦ (let k = outcome_todo t in let j = ap outcome_after h.0 in absurd (met_lost (sym r ∙ k ∙ j))) ]
-  late_first_next n m (more t ts) (s, inr (inl r)) e = elim (fallback_waits (todo t) (todo_of_first ts) m e) [ inl h ↦ late_next n m t s h | inr h ↦ (let k = outcome_todo t in let j = ap outcome_after h.0 in absurd (open_lost (sym (stuck_open n t r) ∙ k ∙ j))) ]
+  late_first_next n m (more t ts) (s, inr (inr r)) e = elim (else-waits (todo t) (todo_of_first ts) m e) [ inl h ↦ late_next n m t s h | inr h ↦ late_first_next n m ts r h.1 ]
+  late_first_next n m (more t ts) (s, inl r) e = elim (else-waits (todo t) (todo_of_first ts) m e) [ inl h ↦ late_next n m t s h | inr h ↦ (let k = outcome_todo t in let j = ap outcome_after h.0 in absurd (met_lost (sym r ∙ k ∙ j))) ]
+  late_first_next n m (more t ts) (s, inr (inl r)) e = elim (else-waits (todo t) (todo_of_first ts) m e) [ inl h ↦ late_next n m t s h | inr h ↦ (let k = outcome_todo t in let j = ap outcome_after h.0 in absurd (open_lost (sym (stuck_open n t r) ∙ k ∙ j))) ]
 
 both_still : (a b : Option Todo) → Still (both a b) → Still a × Still b
 both_still (Some (Put l k)) b s = absurd s

@@ -8,6 +8,7 @@ use Rattle.bt_demand.specs.declared.outcome.Outcome.TheVariants.{Open, Met, Lost
 use Rattle.bt_demand.specs.Recorded.{recorded, recorded_in, untried, untried_in, Agree, AgreeAll, with_record, Grows}
 use Rattle.bt_demand.specs.Steps.{settle, settle_each, settles}
 use Rattle.bt_demand.specs.Next.{todo, todo_of_all, todo_of_first, both, fallback, todo_of_leaf, todo_of_hold}
+use Rattle.bt_demand.proofs.Starts.{both-puts, else-puts, both-waits, else-waits, hold-put, leaf-never-waits}
 use Rattle.bt_demand.specs.declared.todo.Todo.{Todo}
 use Rattle.bt_demand.specs.declared.todo.Todo.TheVariants.{Put, Wait, Settled}
 use Rattle.bt_demand.specs.declared.demand.State.{State}
@@ -78,34 +79,10 @@ mutual
   settle_all_agrees look l s none f h = tt
   settle_all_agrees look l s (more t ts) f h = (settle_agrees look l s t f h.0, settle_all_agrees look l s ts f h.1)
 
-both_puts : (a b : Option Todo) (l k : ℕ) → both a b ≡ Some (Put l k) → (a ≡ Some (Put l k)) ⊎ (b ≡ Some (Put l k))
-both_puts (Some (Put m j)) b l k e = inl e
-both_puts (Some (Wait n)) b l k e = inl e
-both_puts (Some (Settled m)) (Some (Put n j)) l k e = inr e
-both_puts (Some (Settled m)) (Some (Wait n)) l k e = inr e
-both_puts (Some (Settled m)) (Some (Settled n)) l k e = cc
-both_puts (Some (Settled m)) None l k e = cc
-both_puts None (Some (Put n j)) l k e = inr e
-both_puts None (Some (Wait n)) l k e = inr e
-both_puts None (Some (Settled n)) l k e = cc
-both_puts None None l k e = cc
-
-fallback_puts : (a b : Option Todo) (l k : ℕ) → fallback a b ≡ Some (Put l k) → (a ≡ Some (Put l k)) ⊎ (b ≡ Some (Put l k))
-fallback_puts (Some (Put m j)) b l k e = inl e
-fallback_puts (Some (Wait n)) b l k e = inl e
-fallback_puts (Some (Settled true)) b l k e = inl e
-fallback_puts (Some (Settled false)) b l k e = inr e
-fallback_puts None b l k e = inl e
-
 leaf_fresh : (look : ℕ → State) (n k l j : ℕ) (x : State) → x ≡ look n → todo_of_leaf n k x ≡ Some (Put l j) → look l ≡ Fresh
 leaf_fresh look n k l j Fresh h e = let s : n ≡ l = cc in rw (← s) (sym h)
 leaf_fresh look n k l j Good h e = cc
 leaf_fresh look n k l j Bad h e = cc
-
-hold_puts : (n : ℕ) (g : Stage) (r : Option Todo) (l k : ℕ) → todo_of_hold n g r ≡ Some (Put l k) → r ≡ Some (Put l k)
-hold_puts n Idle r l k e = cc
-hold_puts n Waiting r l k e = cc
-hold_puts n Released r l k e = e
 
 -- a leaf that is next has no record
 mutual
@@ -115,15 +92,15 @@ mutual
   next_fresh look l k (reject w) h e = cc
   next_fresh look l k (all ts) h e = next_all_fresh look l k ts h e
   next_fresh look l k (first ts) h e = next_first_fresh look l k ts h e
-  next_fresh look l k (hold n e z c g) h i = next_fresh look l k c h (hold_puts n g (todo c) l k i)
+  next_fresh look l k (hold n e z c g) h i = next_fresh look l k c h (hold-put n g (todo c) l k i).1
 
   pub next_all_fresh : (look : ℕ → State) (l k : ℕ) (ts : Trees) → AgreeAll look ts → todo_of_all ts ≡ Some (Put l k) → look l ≡ Fresh
   next_all_fresh look l k none h e = cc
-  next_all_fresh look l k (more t ts) h e = elim (both_puts (todo t) (todo_of_all ts) l k e) [ inl i ↦ next_fresh look l k t h.0 i | inr i ↦ next_all_fresh look l k ts h.1 i ]
+  next_all_fresh look l k (more t ts) h e = elim (both-puts (todo t) (todo_of_all ts) l k e) [ inl i ↦ next_fresh look l k t h.0 i | inr i ↦ next_all_fresh look l k ts h.1 i ]
 
   pub next_first_fresh : (look : ℕ → State) (l k : ℕ) (ts : Trees) → AgreeAll look ts → todo_of_first ts ≡ Some (Put l k) → look l ≡ Fresh
   next_first_fresh look l k none h e = cc
-  next_first_fresh look l k (more t ts) h e = elim (fallback_puts (todo t) (todo_of_first ts) l k e) [ inl i ↦ next_fresh look l k t h.0 i | inr i ↦ next_first_fresh look l k ts h.1 i ]
+  next_first_fresh look l k (more t ts) h e = elim (else-puts (todo t) (todo_of_first ts) l k e) [ inl i ↦ next_fresh look l k t h.0 i | inr i ↦ next_first_fresh look l k ts h.1 i.1 ]
 
 grows-met : (a b : Outcome) → Grows a b → is_met a ≡ true → is_met b ≡ true
 grows-met Open b g e = cc

@@ -19,37 +19,14 @@ use Rattle.bt_demand.specs.declared.todo.Todo.TheVariants.{Put, Wait, Settled}
 use Rattle.bt_demand.proofs.Flushing.{outcome_grows, lost_stays}
 use Rattle.bt_demand.proofs.Lists.{InList, in-left, in-right, distinct-left, distinct-right, apart}
 use Rattle.bt_demand.proofs.Moves.{release_steps}
+use Rattle.bt_demand.proofs.Starts.{both-puts, else-puts, both-waits, else-waits, hold-put, leaf-never-waits}
 use Rattle.bt_demand.proofs.NextSettles.{outcome_todo}
 use Rattle.bt_demand.proofs.Order.{rises-across, rises-left, rises-right}
-
-both-puts : (a b : Option Todo) (l k : ℕ) → both a b ≡ Some (Put l k) → (a ≡ Some (Put l k)) ⊎ (b ≡ Some (Put l k))
-both-puts (Some (Put m j)) b l k e = inl e
-both-puts (Some (Wait n)) b l k e = inl e
-both-puts (Some (Settled m)) (Some (Put n j)) l k e = inr e
-both-puts (Some (Settled m)) (Some (Wait n)) l k e = inr e
-both-puts (Some (Settled m)) (Some (Settled n)) l k e = cc
-both-puts (Some (Settled m)) None l k e = cc
-both-puts None (Some (Put n j)) l k e = inr e
-both-puts None (Some (Wait n)) l k e = inr e
-both-puts None (Some (Settled n)) l k e = cc
-both-puts None None l k e = cc
-
-else-puts : (a b : Option Todo) (l k : ℕ) → fallback a b ≡ Some (Put l k) → (a ≡ Some (Put l k)) ⊎ ((a ≡ Some (Settled false)) × (b ≡ Some (Put l k)))
-else-puts (Some (Put m j)) b l k e = inl e
-else-puts (Some (Wait n)) b l k e = inl e
-else-puts (Some (Settled true)) b l k e = inl e
-else-puts (Some (Settled false)) b l k e = inr (refl, e)
-else-puts None b l k e = inl e
 
 leaf-put : (n k l j : ℕ) (x : State) → todo_of_leaf n k x ≡ Some (Put l j) → l ≡ n
 leaf-put n k l j Fresh e = cc
 leaf-put n k l j Good e = cc
 leaf-put n k l j Bad e = cc
-
-hold-put : (n : ℕ) (g : Stage) (r : Option Todo) (l k : ℕ) → todo_of_hold n g r ≡ Some (Put l k) → (g ≡ Released) × (r ≡ Some (Put l k))
-hold-put n Idle r l k e = cc
-hold-put n Waiting r l k e = cc
-hold-put n Released r l k e = (refl, e)
 
 -- the leaf that is next stands in the tree
 mutual
@@ -197,30 +174,6 @@ mutual
         inl l ↦ inl (lost_stays (outcome t) (outcome (release m t)) (outcome_grows 0 t (release m t) (release_steps 0 m t (omega arith))) l)
         | inr b ↦ inr (release-unbegun-in m ts b)
       ]))
-
-both-waits : (a b : Option Todo) (m : ℕ) → both a b ≡ Some (Wait m) → (a ≡ Some (Wait m)) ⊎ (b ≡ Some (Wait m))
-both-waits (Some (Put l j)) b m e = inl e
-both-waits (Some (Wait n)) b m e = inl e
-both-waits (Some (Settled k)) (Some (Put n j)) m e = inr e
-both-waits (Some (Settled k)) (Some (Wait n)) m e = inr e
-both-waits (Some (Settled k)) (Some (Settled n)) m e = cc
-both-waits (Some (Settled k)) None m e = cc
-both-waits None (Some (Put n j)) m e = inr e
-both-waits None (Some (Wait n)) m e = inr e
-both-waits None (Some (Settled n)) m e = cc
-both-waits None None m e = cc
-
-else-waits : (a b : Option Todo) (m : ℕ) → fallback a b ≡ Some (Wait m) → (a ≡ Some (Wait m)) ⊎ ((a ≡ Some (Settled false)) × (b ≡ Some (Wait m)))
-else-waits (Some (Put l j)) b m e = inl e
-else-waits (Some (Wait n)) b m e = inl e
-else-waits (Some (Settled true)) b m e = inl e
-else-waits (Some (Settled false)) b m e = inr (refl, e)
-else-waits None b m e = inl e
-
-leaf-never-waits : (n k m : ℕ) (x : State) → todo_of_leaf n k x ≡ Some (Wait m) → ⊥
-leaf-never-waits n k m Fresh e = cc
-leaf-never-waits n k m Good e = cc
-leaf-never-waits n k m Bad e = cc
 
 hold-wait : (n : ℕ) (g : Stage) (r : Option Todo) (m : ℕ) → todo_of_hold n g r ≡ Some (Wait m) → ((g ≡ Idle) × (m ≡ n)) ⊎ ((g ≡ Released) × (r ≡ Some (Wait m)))
 hold-wait n Idle r m e = inl (refl, cc)
