@@ -8,7 +8,7 @@ use Rattle.bt_demand.specs.declared.outcome.Outcome.TheVariants.{Open, Met, Lost
 use Rattle.bt_demand.specs.Flushing.{StateMoves, StageMoves, Moves, MovesAll, moves_leaf, moves_drop, moves_reject, moves_all, moves_first, moves_hold, moves_none, moves_more, IsHeld, Stuck, StuckAll, StuckFirst, IdleAbove, Late, LateAll, LateFirst, Still, High, HighAll, Has, HasAny, InOrder, InOrderAll, InOrderFirst}
 use Rattle.bt_demand.specs.Recorded.{Grows}
 use Rattle.bt_demand.specs.Next.{todo, todo_of_all, todo_of_first, both, fallback, todo_of_leaf, todo_of_hold, outcome_after}
-use Rattle.bt_demand.proofs.Starts.{both-puts, else-puts, both-waits, else-waits, hold-put, leaf-never-waits}
+use Rattle.bt_demand.proofs.Starts.{both-waits, else-waits, leaf-never-waits}
 use Rattle.bt_demand.specs.declared.todo.Todo.{Todo}
 use Rattle.bt_demand.specs.declared.todo.Todo.TheVariants.{Put, Wait, Settled}
 use Rattle.bt_demand.specs.declared.demand.State.{State}

@@ -1,12 +1,10 @@
 -- In a demand that is well formed the holds stand in the order in which one pass empties them.
-use Rattle.std.proofs.Common.{◌≡◌, ℕ, suc, ◌+◌, ◌<◌, ◌≤◌, List, [], ◌∷◌, ◌++◌, length, ◌⊎◌, inl, inr, arith, refl, sym, ap, ◌∙◌}
+use Rattle.std.proofs.Common.{◌≡◌, ℕ, ◌<◌, List, [], ◌∷◌, ◌++◌, inl, inr}
 use Rattle.std.specs.List.{AllByRecursion}
 use Rattle.bt_demand.specs.Flushing.{High, HighAll, Has, HasAny, InOrder, InOrderAll, InOrderFirst}
 use Rattle.bt_demand.specs.Tree.{Tree, Trees, leaf, drop, reject, all, first, hold, none, more}
 use Rattle.bt_demand.specs.WellFormed.{WellFormed, nodes, nodes_in, Rises, IsFlat, AreFlat}
 use Rattle.bt_demand.proofs.Lists.{InList, in-left, in-right, all-left, all-right}
-use Rattle.bt_demand.specs.declared.demand.Stage.{Stage}
-use Rattle.bt_demand.specs.declared.demand.State.{State}
 
 -- of two lists that rise together, the numbers of the second are above each of the first
 pub rises-across : (m : ℕ) (xs ys : List ℕ) → Rises (xs ++ ys) → InList m xs → AllByRecursion (λ j. m < j) ys

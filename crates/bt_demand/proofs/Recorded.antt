@@ -1,5 +1,5 @@
 -- A tree that agrees with the records of its leaves is settled as the records say.
-use Rattle.std.proofs.Common.{◌≡◌, ℕ, Bool, true, false, cond, eqb, Option, Some, None, ◌⊎◌, inl, inr, refl, sym, ap, ◌∙◌}
+use Rattle.std.proofs.Common.{◌≡◌, ℕ, Bool, true, false, cond, eqb, Some, inl, inr, refl, sym, ap, ◌∙◌}
 use Rattle.std.proofs.lemmas.Bool.{eqb-true}
 use Rattle.bt_demand.specs.Tree.{Tree, Trees, leaf, drop, reject, all, first, hold, none, more}
 use Rattle.bt_demand.specs.Outcomes.{outcome, outcome_of_all, outcome_of_first, outcome_of_hold, outcome_of_state}
@@ -7,10 +7,9 @@ use Rattle.bt_demand.specs.declared.outcome.Outcome.{Outcome}
 use Rattle.bt_demand.specs.declared.outcome.Outcome.TheVariants.{Open, Met, Lost}
 use Rattle.bt_demand.specs.Recorded.{recorded, recorded_in, untried, untried_in, Agree, AgreeAll, with_record, Grows}
 use Rattle.bt_demand.specs.Steps.{settle, settle_each, settles}
-use Rattle.bt_demand.specs.Next.{todo, todo_of_all, todo_of_first, both, fallback, todo_of_leaf, todo_of_hold}
-use Rattle.bt_demand.proofs.Starts.{both-puts, else-puts, both-waits, else-waits, hold-put, leaf-never-waits}
-use Rattle.bt_demand.specs.declared.todo.Todo.{Todo}
-use Rattle.bt_demand.specs.declared.todo.Todo.TheVariants.{Put, Wait, Settled}
+use Rattle.bt_demand.specs.Next.{todo, todo_of_all, todo_of_first, todo_of_leaf}
+use Rattle.bt_demand.proofs.Starts.{both-puts, else-puts, hold-put}
+use Rattle.bt_demand.specs.declared.todo.Todo.TheVariants.{Put}
 use Rattle.bt_demand.specs.declared.demand.State.{State}
 use Rattle.bt_demand.specs.declared.demand.State.TheVariants.{Untried as Fresh, Good, Bad}
 use Rattle.bt_demand.specs.declared.demand.Stage.{Stage}

@@ -1,5 +1,5 @@
 -- What is next for two, for a leaf and for a hold.
-use Rattle.std.proofs.Common.{◌≡◌, ℕ, Bool, true, false, Option, Some, None, ◌⊎◌, inl, inr, refl}
+use Rattle.std.proofs.Common.{◌≡◌, ℕ, true, false, Option, Some, None, ◌⊎◌, inl, inr, refl}
 use Rattle.bt_demand.specs.Next.{both, fallback, starts, todo_of_leaf, todo_of_hold}
 use Rattle.bt_demand.specs.declared.demand.Stage.{Stage}
 use Rattle.bt_demand.specs.declared.demand.Stage.TheVariants.{Untried as Idle, Waiting, Released}

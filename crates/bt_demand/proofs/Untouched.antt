@@ -1,9 +1,9 @@
 -- Each step leaves what isn't asked untouched.
-use Rattle.std.proofs.Common.{◌≡◌, ℕ, Bool, true, false, ◌||◌, ◌<◌, arith, cond, eqb, List, [], ◌∷◌, ◌++◌, Option, Some, None, ◌⊎◌, inl, inr, refl, sym, ap, ◌∙◌}
+use Rattle.std.proofs.Common.{◌≡◌, ℕ, Bool, true, false, ◌||◌, ◌<◌, arith, cond, eqb, List, [], ◌∷◌, Option, Some, ◌⊎◌, inl, inr, refl, sym, ap, ◌∙◌}
 use Rattle.std.specs.List.{AllByRecursion}
 use Rattle.std.proofs.lemmas.Bool.{eqb-true}
-use Rattle.bt_demand.specs.Find.{begun, some_begun, tried, reached}
-use Rattle.bt_demand.specs.Next.{todo, todo_of_all, todo_of_first, both, fallback, todo_of_leaf, todo_of_hold, outcome_after}
+use Rattle.bt_demand.specs.Find.{begun, some_begun, reached}
+use Rattle.bt_demand.specs.Next.{todo, todo_of_all, todo_of_first, todo_of_leaf, todo_of_hold, outcome_after}
 use Rattle.bt_demand.specs.Outcomes.{outcome}
 use Rattle.bt_demand.specs.Steps.{settle, settle_each, settles, wait, wait_each, waits, release, release_each, releases}
 use Rattle.bt_demand.specs.Tree.{Tree, Trees, leaf, drop, reject, all, first, hold, none, more}
@@ -13,9 +13,9 @@ use Rattle.bt_demand.specs.declared.demand.Stage.{Stage}
 use Rattle.bt_demand.specs.declared.demand.Stage.TheVariants.{Untried as Idle, Waiting, Released}
 use Rattle.bt_demand.specs.declared.demand.State.{State}
 use Rattle.bt_demand.specs.declared.demand.State.TheVariants.{Untried as Fresh, Good, Bad}
-use Rattle.bt_demand.specs.declared.outcome.Outcome.TheVariants.{Open, Met, Lost}
+use Rattle.bt_demand.specs.declared.outcome.Outcome.TheVariants.{Open, Lost}
 use Rattle.bt_demand.specs.declared.todo.Todo.{Todo}
-use Rattle.bt_demand.specs.declared.todo.Todo.TheVariants.{Put, Wait, Settled}
+use Rattle.bt_demand.specs.declared.todo.Todo.TheVariants.{Put, Wait}
 use Rattle.bt_demand.proofs.Flushing.{outcome_grows, lost_stays}
 use Rattle.bt_demand.proofs.Lists.{InList, in-left, in-right, distinct-left, distinct-right, apart}
 use Rattle.bt_demand.proofs.Moves.{release_steps}
@@ -42,7 +42,7 @@ mutual
   next-leaf-in l k none e = cc
   next-leaf-in l k (more t ts) e =
       elim (both-puts (todo t) (todo_of_all ts) l k e) [
-        inl h ↦ in-left l (leaves t) (leaves_in ts) (next-leaf l k t h)
+        | inl h ↦ in-left l (leaves t) (leaves_in ts) (next-leaf l k t h)
         | inr h ↦ in-right l (leaves t) (leaves_in ts) (next-leaf-in l k ts h)
       ]
 
@@ -50,7 +50,7 @@ mutual
   next-leaf-after l k none e = cc
   next-leaf-after l k (more t ts) e =
       elim (else-puts (todo t) (todo_of_first ts) l k e) [
-        inl h ↦ in-left l (leaves t) (leaves_in ts) (next-leaf l k t h)
+        | inl h ↦ in-left l (leaves t) (leaves_in ts) (next-leaf l k t h)
         | inr h ↦ in-right l (leaves t) (leaves_in ts) (next-leaf-after l k ts h.1)
       ]
 
@@ -93,27 +93,32 @@ mutual
   settle-untouched-in l k s none d u e = tt
   settle-untouched-in l k s (more t ts) d u e =
       elim (both-puts (todo t) (todo_of_all ts) l k e) [
-        inl h ↦
-          (let q = settle-absent-in l s ts (λ w. apart l (leaves t) (leaves_in ts) d (next-leaf l k t h) w) in
-          (settle-untouched l k s t (distinct-left (leaves t) (leaves_in ts) d) u.0 h, rw q u.1))
+        | inl h ↦
+            (let q = settle-absent-in l s ts (λ w. apart l (leaves t) (leaves_in ts) d (next-leaf l k t h) w) in
+            (settle-untouched l k s t (distinct-left (leaves t) (leaves_in ts) d) u.0 h, rw q u.1))
         | inr h ↦
-          (let q = settle-absent l s t (λ w. apart l (leaves t) (leaves_in ts) d w (next-leaf-in l k ts h)) in
-          (rw q u.0, settle-untouched-in l k s ts (distinct-right (leaves t) (leaves_in ts) d) u.1 h))
+            (let q = settle-absent l s t (λ w. apart l (leaves t) (leaves_in ts) d w (next-leaf-in l k ts h)) in
+            (rw q u.0, settle-untouched-in l k s ts (distinct-right (leaves t) (leaves_in ts) d) u.1 h))
       ]
 
   settle-untouched-after : (l k : ℕ) (s : State) (ts : Trees) → Differ (leaves_in ts) → UntouchedAfter ts → todo_of_first ts ≡ Some (Put l k) → UntouchedAfter (settle_each l s ts)
   settle-untouched-after l k s none d u e = tt
   settle-untouched-after l k s (more t ts) d u e =
       elim (else-puts (todo t) (todo_of_first ts) l k e) [
-        inl h ↦
-          (let q = settle-absent-in l s ts (λ w. apart l (leaves t) (leaves_in ts) d (next-leaf l k t h) w) in
-          (settle-untouched l k s t (distinct-left (leaves t) (leaves_in ts) d) u.0 h, (rw q u.1.0, elim u.1.1 [
-            inl b ↦ absurd (put-not-lost l k t h b)
-            | inr b ↦ inr (rw q b)
-          ])))
+        | inl h ↦
+            (let q = settle-absent-in l s ts (λ w. apart l (leaves t) (leaves_in ts) d (next-leaf l k t h) w) in (
+              settle-untouched l k s t (distinct-left (leaves t) (leaves_in ts) d) u.0 h,
+              (
+                rw q u.1.0,
+                elim u.1.1 [
+                  | inl b ↦ absurd (put-not-lost l k t h b)
+                  | inr b ↦ inr (rw q b)
+                ],
+              ),
+            ))
         | inr h ↦
-          (let q = settle-absent l s t (λ w. apart l (leaves t) (leaves_in ts) d w (next-leaf-after l k ts h.1)) in
-          (rw q u.0, (settle-untouched-after l k s ts (distinct-right (leaves t) (leaves_in ts) d) u.1.0 h.1, inl (rw q (outcome_todo t ∙ ap outcome_after h.0)))))
+            (let q = settle-absent l s t (λ w. apart l (leaves t) (leaves_in ts) d w (next-leaf-after l k ts h.1)) in
+            (rw q u.0, (settle-untouched-after l k s ts (distinct-right (leaves t) (leaves_in ts) d) u.1.0 h.1, inl (rw q (outcome_todo t ∙ ap outcome_after h.0)))))
       ]
 
 both-false : (a b : Bool) → (a || b) ≡ false → (a ≡ false) × (b ≡ false)
@@ -157,11 +162,13 @@ mutual
   release-untouched m (reject w) u = tt
   release-untouched m (all ts) u = release-untouched-in m ts u
   release-untouched m (first ts) u = release-untouched-after m ts u
-  release-untouched m (hold n f z c g) u =
-      (release-untouched m c u.0, elim u.1 [
-        inl r ↦ inl (releases-released (eqb n m) g r)
-        | inr b ↦ inr (release-unbegun m c b)
-      ])
+  release-untouched m (hold n f z c g) u = (
+    release-untouched m c u.0,
+    elim u.1 [
+      | inl r ↦ inl (releases-released (eqb n m) g r)
+      | inr b ↦ inr (release-unbegun m c b)
+    ],
+  )
 
   release-untouched-in : (m : ℕ) (ts : Trees) → UntouchedIn ts → UntouchedIn (release_each m ts)
   release-untouched-in m none u = tt
@@ -169,11 +176,16 @@ mutual
 
   release-untouched-after : (m : ℕ) (ts : Trees) → UntouchedAfter ts → UntouchedAfter (release_each m ts)
   release-untouched-after m none u = tt
-  release-untouched-after m (more t ts) u =
-      (release-untouched m t u.0, (release-untouched-after m ts u.1.0, elim u.1.1 [
-        inl l ↦ inl (lost_stays (outcome t) (outcome (release m t)) (outcome_grows 0 t (release m t) (release_steps 0 m t (omega arith))) l)
+  release-untouched-after m (more t ts) u = (
+    release-untouched m t u.0,
+    (
+      release-untouched-after m ts u.1.0,
+      elim u.1.1 [
+        | inl l ↦ inl (lost_stays (outcome t) (outcome (release m t)) (outcome_grows 0 t (release m t) (release_steps 0 m t (omega arith))) l)
         | inr b ↦ inr (release-unbegun-in m ts b)
-      ]))
+      ],
+    ),
+  )
 
 hold-wait : (n : ℕ) (g : Stage) (r : Option Todo) (m : ℕ) → todo_of_hold n g r ≡ Some (Wait m) → ((g ≡ Idle) × (m ≡ n)) ⊎ ((g ≡ Released) × (r ≡ Some (Wait m)))
 hold-wait n Idle r m e = inl (refl, cc)
@@ -194,7 +206,7 @@ mutual
   next-node-in m none e = cc
   next-node-in m (more t ts) e =
       elim (both-waits (todo t) (todo_of_all ts) m e) [
-        inl h ↦ in-left m (nodes t) (nodes_in ts) (next-node m t h)
+        | inl h ↦ in-left m (nodes t) (nodes_in ts) (next-node m t h)
         | inr h ↦ in-right m (nodes t) (nodes_in ts) (next-node-in m ts h)
       ]
 
@@ -202,7 +214,7 @@ mutual
   next-node-after m none e = cc
   next-node-after m (more t ts) e =
       elim (else-waits (todo t) (todo_of_first ts) m e) [
-        inl h ↦ in-left m (nodes t) (nodes_in ts) (next-node m t h)
+        | inl h ↦ in-left m (nodes t) (nodes_in ts) (next-node m t h)
         | inr h ↦ in-right m (nodes t) (nodes_in ts) (next-node-after m ts h.1)
       ]
 
@@ -255,9 +267,9 @@ mutual
   wait-untouched m (first ts) d u e = wait-untouched-after m ts d u e
   wait-untouched m (hold n f z c g) d u e =
       elim (hold-wait n g (todo c) m e) [
-        inl p ↦
-          (let q = wait-absent m c (λ w. above-in m (nodes c) (rw p.1 d.0) w) in
-          (rw q u.0, elim u.1 [ inl r ↦ absurd (idle-not-released g p.0 r) | inr b ↦ inr (rw q b) ]))
+        | inl p ↦
+            (let q = wait-absent m c (λ w. above-in m (nodes c) (rw p.1 d.0) w) in
+            (rw q u.0, elim u.1 [ inl r ↦ absurd (idle-not-released g p.0 r) | inr b ↦ inr (rw q b) ]))
         | inr p ↦ (wait-untouched m c d.1 u.0 p.1, inl (waits-released (eqb n m) g p.0))
       ]
 
@@ -265,27 +277,32 @@ mutual
   wait-untouched-in m none d u e = tt
   wait-untouched-in m (more t ts) d u e =
       elim (both-waits (todo t) (todo_of_all ts) m e) [
-        inl h ↦
-          (let q = wait-absent-in m ts (λ w. above-in m (nodes_in ts) (rises-across m (nodes t) (nodes_in ts) d (next-node m t h)) w) in
-          (wait-untouched m t (rises-left (nodes t) (nodes_in ts) d) u.0 h, rw q u.1))
+        | inl h ↦
+            (let q = wait-absent-in m ts (λ w. above-in m (nodes_in ts) (rises-across m (nodes t) (nodes_in ts) d (next-node m t h)) w) in
+            (wait-untouched m t (rises-left (nodes t) (nodes_in ts) d) u.0 h, rw q u.1))
         | inr h ↦
-          (let q = wait-absent m t (λ w. above-in m (nodes_in ts) (rises-across m (nodes t) (nodes_in ts) d w) (next-node-in m ts h)) in
-          (rw q u.0, wait-untouched-in m ts (rises-right (nodes t) (nodes_in ts) d) u.1 h))
+            (let q = wait-absent m t (λ w. above-in m (nodes_in ts) (rises-across m (nodes t) (nodes_in ts) d w) (next-node-in m ts h)) in
+            (rw q u.0, wait-untouched-in m ts (rises-right (nodes t) (nodes_in ts) d) u.1 h))
       ]
 
   wait-untouched-after : (m : ℕ) (ts : Trees) → Rises (nodes_in ts) → UntouchedAfter ts → todo_of_first ts ≡ Some (Wait m) → UntouchedAfter (wait_each m ts)
   wait-untouched-after m none d u e = tt
   wait-untouched-after m (more t ts) d u e =
       elim (else-waits (todo t) (todo_of_first ts) m e) [
-        inl h ↦
-          (let q = wait-absent-in m ts (λ w. above-in m (nodes_in ts) (rises-across m (nodes t) (nodes_in ts) d (next-node m t h)) w) in
-          (wait-untouched m t (rises-left (nodes t) (nodes_in ts) d) u.0 h, (rw q u.1.0, elim u.1.1 [
-            inl b ↦ absurd (wait-not-lost m t h b)
-            | inr b ↦ inr (rw q b)
-          ])))
+        | inl h ↦
+            (let q = wait-absent-in m ts (λ w. above-in m (nodes_in ts) (rises-across m (nodes t) (nodes_in ts) d (next-node m t h)) w) in (
+              wait-untouched m t (rises-left (nodes t) (nodes_in ts) d) u.0 h,
+              (
+                rw q u.1.0,
+                elim u.1.1 [
+                  | inl b ↦ absurd (wait-not-lost m t h b)
+                  | inr b ↦ inr (rw q b)
+                ],
+              ),
+            ))
         | inr h ↦
-          (let q = wait-absent m t (λ w. above-in m (nodes_in ts) (rises-across m (nodes t) (nodes_in ts) d w) (next-node-after m ts h.1)) in
-          (rw q u.0, (wait-untouched-after m ts (rises-right (nodes t) (nodes_in ts) d) u.1.0 h.1, inl (rw q (outcome_todo t ∙ ap outcome_after h.0)))))
+            (let q = wait-absent m t (λ w. above-in m (nodes_in ts) (rises-across m (nodes t) (nodes_in ts) d w) (next-node-after m ts h.1)) in
+            (rw q u.0, (wait-untouched-after m ts (rises-right (nodes t) (nodes_in ts) d) u.1.0 h.1, inl (rw q (outcome_todo t ∙ ap outcome_after h.0)))))
       ]
 
 -- a tree of which nothing was tried

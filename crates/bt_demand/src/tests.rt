@@ -98,6 +98,17 @@ fn a_demand_is_walked_from_untried_to_lost(rt: HostRuntime) -> Result<(), Fail> 
 }
 
 #[test]
+fn a_first_tries_no_child_after_a_met_one(rt: HostRuntime) -> Result<(), Fail> {
+    let mut demand = walked(rt.alloc())?;
+    step(&mut demand, false);
+    assert_eq!(rt; demand.outcome(), Outcome::Open);
+    step(&mut demand, true);
+    assert_eq!(rt; demand.todo(), Some(Todo::Settled { met: false }));
+    assert_eq!(rt; demand.outcome(), Outcome::Lost);
+    Ok(())
+}
+
+#[test]
 fn leaves_and_holds_are_found_by_their_numbers(rt: HostRuntime) -> Result<(), Fail> {
     let demand = walked(rt.alloc())?;
     assert_eq!(rt; demand.bytes_of(2), Some(b"text".as_slice()));
