@@ -4,6 +4,7 @@ pub mod Flushing
 pub mod Holds
 pub mod Next
 pub mod Outcomes
+pub mod Parts
 pub mod Reasons
 pub mod Recorded
 pub mod Startable

@@ -5,6 +5,7 @@
 #![tactic(auto)]
 
 pub mod demand;
+pub mod derive;
 pub mod outcome;
 pub mod routes;
 pub mod search;
