@@ -1,10 +1,15 @@
 // What no contract says: that the calls succeed with ample memory, on trees whose walk was worked out by hand.
+ghost use Rattle.std.specs.Prelude.{[]};
+
 use crate::demand::{Demand, Demands, Stage, State};
 use crate::outcome::Outcome;
-use crate::routes::Routes;
+use crate::derive::Derive;
+use crate::routes::{HoldPolicies, Routes};
 use crate::todo::Todo;
 use bt_ports::NoMemory;
 use bt_ports::blob::Blob;
+use bt_ports::parts::Txn;
+use bt_ports::sequence::Sequence;
 use bt_ports::text::Text;
 use std::alloc::Global;
 use std::test::Fail;
@@ -141,5 +146,51 @@ fn the_text_is_that_of_the_reject_that_decides(rt: HostRuntime) -> Result<(), Fa
 fn routes_begin_with_no_part(rt: HostRuntime) -> Result<(), Fail> {
     let routes = Routes::make(rt.alloc(), 3)?;
     assert!(rt; routes.parts.is_empty());
+    Ok(())
+}
+
+// A plan by which no transaction has a part.
+#[derive(Drop)]
+struct NoParts {
+    alloc: Global,
+    policies: HoldPolicies,
+}
+
+impl Derive for NoParts {
+    ghost parts = { λ p t. [] };
+
+    ghost sinks = { λ p. 0 };
+
+    ghost policies = { λ p. p.policies.list };
+
+    fn derive(&self, txn: &Txn) -> Result<Routes, NoMemory> {
+        Routes::make(self.alloc, txn.items.len())
+    }
+
+    fn holds(&self) -> &HoldPolicies {
+        &self.policies
+    }
+
+    fn sink_count(&self) -> u32 {
+        0
+    }
+
+    ghost parts_fit = { λ p t. tt };
+}
+
+#[test]
+fn a_plan_may_derive_no_part(rt: HostRuntime) -> Result<(), Fail> {
+    let plan = NoParts {
+        alloc: rt.alloc(),
+        policies: Sequence::new(rt.alloc()),
+    };
+    let txn = Txn {
+        number: 1,
+        moment: 0,
+        items: Sequence::new(rt.alloc()),
+    };
+    assert!(rt; plan.derive(&txn)?.parts.is_empty());
+    assert!(rt; plan.holds().is_empty());
+    assert_eq!(rt; plan.sink_count(), 0);
     Ok(())
 }
