@@ -2,8 +2,8 @@
 ghost use Rattle.std.specs.Prelude.{[]};
 
 use crate::demand::{Demand, Demands, Stage, State};
-use crate::outcome::Outcome;
 use crate::derive::Derive;
+use crate::outcome::Outcome;
 use crate::routes::{HoldPolicies, Routes};
 use crate::todo::Todo;
 use bt_ports::NoMemory;
