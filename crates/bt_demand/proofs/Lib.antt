@@ -1,0 +1,14 @@
+pub mod Examples
+pub mod Falls
+pub mod Flushing
+pub mod Lists
+pub mod Moves
+pub mod NextSettles
+pub mod NextStarts
+pub mod Order
+pub mod Outcomes
+pub mod Reasons
+pub mod Recorded
+pub mod Rows
+pub mod Starts
+pub mod Untouched

@@ -1,0 +1,16 @@
+pub mod Asked
+pub mod Find
+pub mod Flushing
+pub mod Holds
+pub mod Next
+pub mod Outcomes
+pub mod Parts
+pub mod Reasons
+pub mod Recorded
+pub mod Startable
+pub mod Steps
+pub mod Tree
+pub mod Untouched
+pub mod View
+pub mod WellFormed
+pub mod Work
