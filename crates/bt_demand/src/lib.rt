@@ -6,6 +6,7 @@
 
 pub mod demand;
 pub mod derive;
+pub mod laws;
 pub mod outcome;
 pub mod routes;
 pub mod search;
