@@ -8,6 +8,7 @@
 mod copies;
 pub mod fields;
 mod measure;
+pub mod message;
 pub mod names;
 mod order;
 mod path;
@@ -17,9 +18,10 @@ mod tests;
 pub mod val;
 mod write;
 
-pub use copies::copy;
+pub use copies::{copy, copy_members};
 pub use fields::Fields;
 pub use measure::depth;
+pub use message::{Msg, Out};
 pub use names::{FunctionId, MethodId, Op, PrefixOp, function_of, method_of};
 pub use order::compare;
 pub use path::path_get;
