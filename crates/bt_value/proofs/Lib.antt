@@ -8,6 +8,7 @@ pub mod Ordered
 pub mod Putting
 pub mod Returns
 pub mod Rise
+pub mod Searching
 pub mod Taking
 pub mod Texts
 pub mod Whole

@@ -27,7 +27,7 @@ module _ {V : Type 0} (k : List ℕ) (v : V) where
   all_put P [] p a = (p, tt)
   all_put P (e ∷ es) p a = all_put_by P e es p a (all_put P es p a.1) (by_bytes k e.0)
 
-  all_above : (e : List ℕ × V) (es : List (List ℕ × V)) → by_bytes k e.0 ≡ Less → AllByRecursion (λ y. by_bytes e.0 y ≡ Less) (keys_of es) → AllByRecursion (λ y. by_bytes k y ≡ Less) (keys_of es)
+  pub all_above : (e : List ℕ × V) (es : List (List ℕ × V)) → by_bytes k e.0 ≡ Less → AllByRecursion (λ y. by_bytes e.0 y ≡ Less) (keys_of es) → AllByRecursion (λ y. by_bytes k y ≡ Less) (keys_of es)
   all_above e [] h a = tt
   all_above e (f ∷ es) h a = (nat_list_cmp_total.trans k e.0 f.0 h a.0, all_above e es h a.1)
 

@@ -1,19 +1,19 @@
 //! The members of an object.
 ghost use Rattle.std.specs.Prelude.{◌≡◌, ◌∷◌, [], ◌++◌, length, OnOk, OnErr, ◌≤◌, IsTrue, ◌↔◌, option_map, slice_get};
-ghost use Rattle.std.specs.Option.{option_copied};
+ghost use Rattle.std.specs.Option.{option_copied, OnSome, IfNone};
 ghost use Rattle.std.specs.BTreeMap.{insert_entry};
 ghost use Rattle.std.specs.Cmp.Lexicographic.{slice_cmp};
 ghost use Rattle.std.specs.List.{insert};
 ghost use Rattle.std.specs.Map.{remove_entry};
 ghost use Rattle.std.specs.Ordering.{nat_cmp};
 ghost use Rattle.std.specs.Str.{bytes_eq};
-ghost use Rattle.bt_value.specs.Keys.{Rising, find, place, slot};
+ghost use Rattle.bt_value.specs.Keys.{Rising, find, slot};
 
 use bt_ports::NoMemory;
 use bt_ports::text::Text;
 use std::alloc::Global;
-use std::cmp::Ordering;
 use std::marker::Model;
+use std::mem;
 
 /// The members of an object, which contracts see as a list of pairs of key and value.
 ///
@@ -83,40 +83,21 @@ impl<V> Fields<V> {
     pub fn find(&self, key: &str) -> Option<&V>
         ensures { option_copied result ≡ find key.now self.now }
     {
-        for entry in self.entries.as_slice() {
-            if key == entry.0.as_str() {
-                return Some(&entry.1);
-            }
+        match self.slot(key) {
+            Ok(at) => Some(&self.entries[at].1),
+            Err(_) => None,
         }
-        None
     }
 }
 
 impl<V> Fields<V> {
-    // The place of the key.
-    fn place(&self, key: &str) -> Option<usize>
-        ensures { result ≡ place key.now self.now }
-    {
-        for i in 0..self.entries.len() {
-            if key == self.entries[i].0.as_str() {
-                return Some(i);
-            }
-        }
-        None
-    }
-
     // The place of the key, or in an error the place that it would have.
     fn slot(&self, key: &str) -> Result<usize, usize>
         ensures { result ≡ slot key.now self.now }
     {
-        for i in 0..self.entries.len() {
-            match key.as_bytes().cmp(self.entries[i].0.as_str().as_bytes()) {
-                Ordering::Less => return Err(i),
-                Ordering::Equal => return Ok(i),
-                Ordering::Greater => {}
-            }
-        }
-        Err(self.entries.len())
+        self.entries
+            .as_slice()
+            .binary_search_by(|entry| entry.0.as_str().as_bytes().cmp(key.as_bytes()))
     }
 }
 
@@ -142,12 +123,25 @@ impl<V: Drop> Fields<V> {
         ensures value { result ≡ find key.now self.old }
         ensures rest { self.new ≡ remove_entry (bytes_eq key.now) self.old }
     {
-        match self.place(key) {
-            Some(at) => {
+        match self.slot(key) {
+            Ok(at) => {
                 let (_name, value) = self.entries.remove(at);
                 Some(value)
             }
-            None => None,
+            Err(_) => None,
+        }
+    }
+
+    /// Puts the value in place of the key's own and gives that back, and changes nothing exactly
+    /// where no member has the key. It takes no memory.
+    pub fn replace(&mut self, key: &str, value: V) -> Option<V>
+        ensures value { result ≡ find key.now self.old }
+        ensures found { OnSome result (self.new ≡ insert_entry (slice_cmp nat_cmp) self.old key.now value) }
+        ensures missing { IfNone result (self.new ≡ self.old) }
+    {
+        match self.slot(key) {
+            Ok(at) => Some(mem::replace(&mut self.entries[at].1, value)),
+            Err(_) => None,
         }
     }
 

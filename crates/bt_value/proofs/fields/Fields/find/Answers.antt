@@ -1,22 +1,26 @@
-use Rattle.std.proofs.Common.{◌≡◌, ◌+◌, ◌∷◌, Some, drop, true, false, cond, sym, ap, ◌∙◌, arith, rules}
-use Rattle.std.proofs.lemmas.List.{drop_more}
-use Rattle.std.specs.Str.{bytes_eq}
-use Rattle.bt_value.specs.Keys.{find}
+use Rattle.std.proofs.Common.{◌≡◌, ◌<◌, Some, length, get_or, sym, ap, ◌∙◌, subst, arith, rules}
+use Rattle.std.specs.Result.{result_ok}
+use Rattle.bt_value.specs.Keys.{Rising}
+use Rattle.bt_value.proofs.Putting.{Found}
+use Rattle.bt_value.proofs.Searching.{at-slot}
 use Rattle.bt_value.proofs.fields.Fields.find.Goals as goal
 
-pub returns-then-eq : goal.returns-then-eq
-returns-then-eq g c =
-    let es = c.as_slice-entry-items.result.now in
-    let i = c.loop-entry.entry-index in
-    let here : drop i es ≡ c.entry-item.result ∷ drop (i + 1) es = drop_more es i c.entry-item.result c.loop-entry-test.true ∙ ap (λ e. e ∷ drop (i + 1) es) (sym c.entry-item.is) in
-    let yes : bytes_eq c.args.key.now c.entry-item.result.0 ≡ true = ap (bytes_eq c.args.key.now) (sym c.as_str.ensures) ∙ sym c.eq.ensures ∙ c.if-eq.true in
-    let is : c.args.self.now ≡ es = grind (arith, rules) in
-    sym (ap (find c.args.key.now) is ∙ sym c.loop-entry.invariant ∙ ap (find c.args.key.now) here ∙ ap (λ b. cond b (Some c.entry-item.result.1) (find c.args.key.now (drop (i + 1) es))) yes)
+pub index-requires : goal.index-requires
+index-requires g c =
+    let now = c.args.self.now in
+    let there = subst (λ r. Found c.args.key.now now (result_ok r)) (sym c.slot.ensures ∙ c.in-Ok.is) (at-slot c.args.key.now now (subst Rising c.self.view_is c.self.invariant)) in
+    let within : c.in-Ok.at < length c.self.inside.entries.items = subst (λ l. c.in-Ok.at < length l) (sym c.self.view_is) there.0 in
+    grind (arith, rules, within)
 
-pub loop-entry-preserved : goal.loop-entry-preserved
-loop-entry-preserved g c =
-    let es = c.as_slice-entry-items.result.now in
-    let i = c.loop-entry.entry-index in
-    let here : drop i es ≡ c.entry-item.result ∷ drop (i + 1) es = drop_more es i c.entry-item.result c.loop-entry-test.true ∙ ap (λ e. e ∷ drop (i + 1) es) (sym c.entry-item.is) in
-    let no : bytes_eq c.args.key.now c.entry-item.result.0 ≡ false = ap (bytes_eq c.args.key.now) (sym c.as_str.ensures) ∙ sym c.eq.ensures ∙ c.if-eq.false in
-    sym (ap (find c.args.key.now) here ∙ ap (λ b. cond b (Some c.entry-item.result.1) (find c.args.key.now (drop (i + 1) es))) no) ∙ c.loop-entry.invariant
+pub returns-in-Ok : goal.returns-in-Ok
+returns-in-Ok g c =
+    let now = c.args.self.now in
+    let there = subst (λ r. Found c.args.key.now now (result_ok r)) (sym c.slot.ensures ∙ c.in-Ok.is) (at-slot c.args.key.now now (subst Rising c.self.view_is c.self.invariant)) in
+    let d = c.index.result.now in
+    ap (λ e. Some e.1) (c.index.ensures ∙ ap (λ l. get_or l c.in-Ok.at d) c.self.view_is) ∙ sym (there.1 d)
+
+pub returns-in-Err : goal.returns-in-Err
+returns-in-Err g c =
+    let now = c.args.self.now in
+    let missing = subst (λ r. Found c.args.key.now now (result_ok r)) (sym c.slot.ensures ∙ c.in-Err.is) (at-slot c.args.key.now now (subst Rising c.self.view_is c.self.invariant)) in
+    sym missing.0
