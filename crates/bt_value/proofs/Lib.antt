@@ -1,4 +1,5 @@
 pub mod Compared
+pub mod Deepened
 pub mod Depths
 pub mod Giving
 pub mod Named
@@ -6,9 +7,11 @@ pub mod Nested
 pub mod Numerals
 pub mod Ordered
 pub mod Putting
+pub mod Replacing
 pub mod Returns
 pub mod Rise
 pub mod Searching
+pub mod Setting
 pub mod Taking
 pub mod Texts
 pub mod Whole

@@ -14,7 +14,7 @@ abbrev by_bytes : List ℕ → List ℕ → Ordering
 by_bytes = slice_cmp nat_cmp
 
 module _ {V : Type 0} (k : List ℕ) (v : V) where
-  abbrev put_by : List ℕ × V → List (List ℕ × V) → Ordering → List (List ℕ × V)
+  abbrev pub put_by : List ℕ × V → List (List ℕ × V) → Ordering → List (List ℕ × V)
   put_by e es o = match_ordering o ((k, v) ∷ e ∷ es) ((e.0, v) ∷ es) (e ∷ insert_entry by_bytes es k v)
 
   all_put_by : (P : List ℕ → Type 0) (e : List ℕ × V) (es : List (List ℕ × V)) → P k → AllByRecursion P (keys_of (e ∷ es)) → AllByRecursion P (keys_of (insert_entry by_bytes es k v))
@@ -64,10 +64,10 @@ module _ {V : Type 0} (k : List ℕ) (v : V) where
   put-at (e ∷ es) = put_here e es (put-at es) (by_bytes k e.0) refl
 
 module _ {V : Type 0} (k : List ℕ) where
-  abbrev removed_by : List ℕ × V → List (List ℕ × V) → Bool → List (List ℕ × V)
+  abbrev pub removed_by : List ℕ × V → List (List ℕ × V) → Bool → List (List ℕ × V)
   removed_by e es b = cond b es (e ∷ remove_entry (bytes_eq k) es)
 
-  abbrev found_by : List ℕ × V → List (List ℕ × V) → Bool → Option V
+  abbrev pub found_by : List ℕ × V → List (List ℕ × V) → Bool → Option V
   found_by e es b = cond b (Some e.1) (find k es)
 
   all_left_by : (P : List ℕ → Type 0) (e : List ℕ × V) (es : List (List ℕ × V)) → AllByRecursion P (keys_of (e ∷ es)) → AllByRecursion P (keys_of (remove_entry (bytes_eq k) es))

@@ -6,3 +6,4 @@ pub mod Depth
 pub mod Reading
 pub mod formers
 pub mod Paths
+pub mod Setting

@@ -1,6 +1,6 @@
 //! The members of an object.
 ghost use Rattle.std.specs.Prelude.{◌≡◌, ◌∷◌, [], ◌++◌, length, OnOk, OnErr, ◌≤◌, IsTrue, ◌↔◌, option_map, slice_get};
-ghost use Rattle.std.specs.Option.{option_copied, OnSome, IfNone};
+ghost use Rattle.std.specs.Option.{option_copied, OnSome, IfNone, IfSome};
 ghost use Rattle.std.specs.BTreeMap.{insert_entry};
 ghost use Rattle.std.specs.Cmp.Lexicographic.{slice_cmp};
 ghost use Rattle.std.specs.List.{insert};
@@ -137,6 +137,7 @@ impl<V: Drop> Fields<V> {
     pub fn replace(&mut self, key: &str, value: V) -> Option<V>
         ensures value { result ≡ find key.now self.old }
         ensures found { OnSome result (self.new ≡ insert_entry (slice_cmp nat_cmp) self.old key.now value) }
+        ensures back { IfSome result (λ v. insert_entry (slice_cmp nat_cmp) self.new key.now v ≡ self.old) }
         ensures missing { IfNone result (self.new ≡ self.old) }
     {
         match self.slot(key) {

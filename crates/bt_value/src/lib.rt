@@ -6,6 +6,7 @@
 #![tactic(auto)]
 
 mod copies;
+pub mod edit;
 pub mod fields;
 mod measure;
 pub mod message;
@@ -19,6 +20,7 @@ pub mod val;
 mod write;
 
 pub use copies::{copy, copy_members};
+pub use edit::{PathFault, path_delete, path_set};
 pub use fields::Fields;
 pub use measure::depth;
 pub use message::{Msg, Out};
