@@ -1,5 +1,5 @@
 //! Values set and deleted at a path of names.
-ghost use Rattle.std.specs.Prelude.{◌≡◌, ◌≤◌, ◌<◌, ◌∷◌, length, Some, None, IsSomeAnd, OnOk, OnErr, IsErrOf};
+ghost use Rattle.std.specs.Prelude.{◌≡◌, ◌≤◌, ◌<◌, ◌∷◌, Some, None, IsSomeAnd, OnOk, OnErr, IsErrOf};
 ghost use Rattle.std.specs.BTreeMap.{insert_entry};
 ghost use Rattle.std.specs.Cmp.Lexicographic.{slice_cmp};
 ghost use Rattle.std.specs.Option.{is_some};
@@ -36,9 +36,9 @@ pub enum PathFault {
 /// A step that is missing or null becomes an object. `NotObject` comes exactly where a step on the
 /// way, the value itself among them, is none of an object, null and missing, and `TooDeep` exactly
 /// where there is no such step and the value would nest deeper than 127. After a refusal the value
-/// is as it was, and `x` is dropped. Memory is taken where a step is missing or null.
+/// is as it was, and `x` is dropped. Memory is taken where a step is missing or null. The empty path
+/// names the value itself.
 pub fn path_set(alloc: Global, v: &mut Val, path: &[Text], x: Val) -> Result<(), PathFault>
-    requires path { 0 < length path.now }
     requires value { depth v.old ≤ 127 }
     requires given { depth x ≤ 127 }
     ensures set { OnOk result (set_at path.now x v.old ≡ Some v.new) }

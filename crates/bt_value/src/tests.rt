@@ -1,8 +1,10 @@
 //! What texts are read as, how values are printed, and how they compare, on values worked out by hand.
 
 use crate::{
-    JsonFault, Members, Val, compare, copy, depth, path_get, read_json, write_json, write_pretty,
+    FunctionId, JsonFault, Members, MethodId, Msg, Val, compare, copy, depth, function_of,
+    method_of, path_delete, path_get, path_set, read_json, write_json, write_pretty,
 };
+use bt_ports::blob::Blob;
 use bt_ports::text::Text;
 use std::alloc::Global;
 use std::cmp::Ordering;
@@ -24,6 +26,28 @@ fn ordered(alloc: Global, left: &str, right: &str) -> Result<Ordering, Fail> {
     let a = read_json(alloc, left.as_bytes())?;
     let b = read_json(alloc, right.as_bytes())?;
     Ok(compare(&a, &b))
+}
+
+/// The names of a path, which stand between its dots.
+fn names_of(alloc: Global, path: &str) -> Result<Vec<Text>, Fail> {
+    let mut names = Vec::new(alloc);
+    for name in path.split('.') {
+        names.push(Text::make(alloc, name)?)?;
+    }
+    Ok(names)
+}
+
+/// The compact text of the value with another set at the path, or the fault and the value's text.
+fn set(alloc: Global, value: &str, path: &str, given: &[u8]) -> Result<String, Fail> {
+    let mut v = read_json(alloc, value.as_bytes())?;
+    let names = names_of(alloc, path)?;
+    let outcome = path_set(alloc, &mut v, names.as_slice(), read_json(alloc, given)?);
+    let text = write_json(alloc, &v)?;
+    let text = String::from_utf8_lossy(alloc, text.as_slice())?;
+    match outcome {
+        Ok(()) => Ok(text),
+        Err(fault) => Ok(format!(in alloc; "{fault}: {text}")?),
+    }
 }
 
 /// A list within lists, this many in all.
@@ -158,10 +182,7 @@ fn a_path_walks_objects_by_key_and_lists_by_place(rt: HostRuntime) -> Result<(),
         ("", ""),
     ];
     for (path, want) in cases {
-        let mut names = Vec::new(rt.alloc());
-        for name in path.split('.') {
-            names.push(Text::make(rt.alloc(), name)?)?;
-        }
+        let names = names_of(rt.alloc(), path)?;
         match path_get(&value, names.as_slice()) {
             Some(found) => {
                 let wanted = read_json(rt.alloc(), want.as_bytes())?;
@@ -202,5 +223,110 @@ fn members_are_put_in_their_place_and_taken_out(rt: HostRuntime) -> Result<(), F
     let (first, value) = members.at(0).ok_or("a first member")?;
     assert_eq!(rt; first, "a");
     assert!(rt; matches!(value, Val::Int(4)));
+    Ok(())
+}
+
+#[test]
+fn a_value_is_set_through_objects_alone(rt: HostRuntime) -> Result<(), Fail> {
+    let cases = [
+        ("{}", "a", "{\"a\":7}"),
+        ("null", "a.b", "{\"a\":{\"b\":7}}"),
+        ("{\"a\":null}", "a.b.c", "{\"a\":{\"b\":{\"c\":7}}}"),
+        (
+            "{\"a\":{\"b\":[],\"c\":2}}",
+            "a.b",
+            "{\"a\":{\"b\":7,\"c\":2}}",
+        ),
+        ("{\"c\":1,\"a\":2}", "b", "{\"a\":2,\"b\":7,\"c\":1}"),
+        (
+            "{\"a\":1}",
+            "a.b",
+            "path through a value that is not an object: {\"a\":1}",
+        ),
+        (
+            "{\"a\":[{}]}",
+            "a.0",
+            "path through a value that is not an object: {\"a\":[{}]}",
+        ),
+        (
+            "{\"a\":[{}]}",
+            "a.0.b",
+            "path through a value that is not an object: {\"a\":[{}]}",
+        ),
+        (
+            "\"a\"",
+            "a",
+            "path through a value that is not an object: \"a\"",
+        ),
+    ];
+    for (value, path, want) in cases {
+        let got = set(rt.alloc(), value, path, b"7")?;
+        assert_eq!(rt; got.as_str(), want, "at {path} of {value}");
+    }
+    Ok(())
+}
+
+#[test]
+fn what_is_set_nests_127_deep_and_no_deeper(rt: HostRuntime) -> Result<(), Fail> {
+    let most = nested(rt.alloc(), 126)?;
+    let within = set(rt.alloc(), "{\"a\":null}", "a", most.as_slice())?;
+    assert!(rt; within.as_str().starts_with("{\"a\":[["));
+    let past = set(rt.alloc(), "{\"a\":null}", "a.b", most.as_slice())?;
+    assert_eq!(rt; past.as_str(), "too deep: {\"a\":null}");
+    let blocked = set(rt.alloc(), "{\"a\":1}", "a.b", most.as_slice())?;
+    assert_eq!(rt;
+        blocked.as_str(),
+        "path through a value that is not an object: {\"a\":1}"
+    );
+    Ok(())
+}
+
+#[test]
+fn a_member_is_deleted_through_objects_alone(rt: HostRuntime) -> Result<(), Fail> {
+    let cases = [
+        ("{\"a\":1,\"b\":2}", "a", "{\"b\":2}"),
+        ("{\"a\":{\"b\":1,\"c\":2}}", "a.b", "{\"a\":{\"c\":2}}"),
+        ("{\"a\":{\"b\":1}}", "a.c", "{\"a\":{\"b\":1}}"),
+        ("{\"a\":{\"b\":1}}", "c.b", "{\"a\":{\"b\":1}}"),
+        ("{\"a\":[{\"b\":1}]}", "a.0.b", "{\"a\":[{\"b\":1}]}"),
+        ("[1]", "0", "[1]"),
+        ("null", "a", "null"),
+    ];
+    for (value, path, want) in cases {
+        let mut v = read_json(rt.alloc(), value.as_bytes())?;
+        let names = names_of(rt.alloc(), path)?;
+        path_delete(&mut v, names.as_slice());
+        let text = write_json(rt.alloc(), &v)?;
+        assert_eq!(rt; text.as_slice(), want.as_bytes(), "at {path} of {value}");
+    }
+    Ok(())
+}
+
+#[test]
+fn methods_and_functions_are_known_by_their_names(rt: HostRuntime) -> Result<(), Fail> {
+    assert_eq!(rt; method_of("map_each"), Some(MethodId::MapEach));
+    assert_eq!(rt; method_of("map_each_"), None);
+    assert_eq!(rt; MethodId::TsUnixMilli.name(), "ts_unix_milli");
+    assert_eq!(rt; function_of("batch_size"), Some(FunctionId::BatchSize));
+    assert_eq!(rt; function_of("map_each"), None);
+    assert_eq!(rt; FunctionId::Now.name(), "now");
+    Ok(())
+}
+
+#[test]
+fn a_message_is_copied_whole(rt: HostRuntime) -> Result<(), Fail> {
+    let mut meta = Members::new(rt.alloc());
+    meta.put(Text::make(rt.alloc(), "k")?, Val::Int(1))?;
+    assert!(rt; matches!(meta.replace("k", Val::Int(2)), Some(Val::Int(1))));
+    assert!(rt; meta.replace("l", Val::Null).is_none());
+    let message = Msg {
+        content: Blob::make(rt.alloc(), b"a")?,
+        meta,
+        flag: Some(Text::make(rt.alloc(), "f")?),
+    };
+    let again = message.copy(rt.alloc())?;
+    assert_eq!(rt; again.content.as_slice(), b"a".as_slice());
+    assert!(rt; matches!(again.meta.find("k"), Some(Val::Int(2))));
+    assert!(rt; matches!(again.flag, Some(text) if text.as_str() == "f"));
     Ok(())
 }
