@@ -1,3 +1,4 @@
+pub mod Blocked
 pub mod Compared
 pub mod Deepened
 pub mod Depths
