@@ -1,5 +1,5 @@
 //! The members of an object.
-ghost use Rattle.std.specs.Prelude.{◌≡◌, ◌∷◌, [], ◌++◌, length, OnOk, OnErr, ◌≤◌, IsTrue, ◌↔◌, option_map, slice_get};
+ghost use Rattle.std.specs.Prelude.{◌≡◌, ◌∷◌, [], ◌++◌, length, None, OnOk, OnErr, ◌≤◌, IsTrue, ◌↔◌, option_map, slice_get};
 ghost use Rattle.std.specs.Option.{option_copied, OnSome, IfNone, IfSome};
 ghost use Rattle.std.specs.BTreeMap.{insert_entry};
 ghost use Rattle.std.specs.Cmp.Lexicographic.{slice_cmp};
@@ -103,10 +103,12 @@ impl<V> Fields<V> {
 
 impl<V: Drop> Fields<V> {
     /// Puts the value at the key. A key that is there takes it in place of its own, and a new one
-    /// goes between those below and those above it. Without memory the members stay as they were.
+    /// goes between those below and those above it. Without memory the members stay as they were,
+    /// and a key that is there takes none.
     pub fn put(&mut self, key: Text, value: V) -> Result<(), NoMemory>
         ensures ok { OnOk result (self.new ≡ insert_entry (slice_cmp nat_cmp) self.old key value) }
         ensures err { OnErr result (self.new ≡ self.old) }
+        ensures there { OnErr result (find key self.old ≡ None) }
     {
         match self.slot(key.as_str()) {
             Ok(at) => {
