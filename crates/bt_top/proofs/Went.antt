@@ -1,5 +1,5 @@
 -- A run as a whole.
-use Rattle.std.proofs.Common.{◌≡◌, ℕ, List, Option, ap, ◌∙◌, refl, arith}
+use Rattle.std.proofs.Common.{◌≡◌, ℕ, List, Option, ap, ◌∙◌, refl, arith, inr}
 use Rattle.bt_ports.specs.World.{Tale, once_more}
 use Rattle.bt_ports.specs.declared.outside.Source as Source
 use Rattle.bt_ports.specs.declared.outside.Sink as Sink
@@ -42,6 +42,7 @@ module _ {S K A C I : Type 0} (gs : Source.Ghosts S) (gk : Sink.Ghosts K) (ga : 
               input = λ t. ran.input t ∙ s.input (ran.told t);
               ran = ran.ran;
             };
+        clocks = inr (ap (λ w. w.clocks) said ∙ ap (λ w. w.clocks) k.keeps ∙ s.clocks);
         others =
             record {
               files = ap (λ w. w.files) said ∙ ap (λ w. w.files) k.keeps ∙ s.others.files;

@@ -1,7 +1,7 @@
 -- What stands after a run, and why it went so.
-use Rattle.std.specs.Prelude.{◌≡◌, ℕ, ◌≤◌, List, length, Option, Some, Bool, true, false}
+use Rattle.std.specs.Prelude.{◌≡◌, ◌⊎◌, ℕ, ◌≤◌, List, length, Option, Some, Bool, true, false}
 use Rattle.bt_ports.specs.Faults.{Rose}
-use Rattle.bt_ports.specs.World.{Tale}
+use Rattle.bt_ports.specs.World.{Tale, once_more}
 use Rattle.bt_top.specs.Form.{IsEmptyObject}
 use Rattle.bt_top.specs.declared.course.Course.{Course}
 use Rattle.bt_top.specs.declared.course.Course.TheVariants as course
@@ -75,3 +75,7 @@ pub record LeavesOthers {E I : Type 0} (a b : Tale E I) : Type 0 where
   pub kept_input : b.kept_input ≡ a.kept_input
   pub load_keeps : b.load_keeps ≡ a.load_keeps
   pub kept_load : b.kept_load ≡ a.kept_load
+
+-- one clock is taken, or none
+abbrev pub TakesAtMostOne : ℕ → ℕ → Type 0
+TakesAtMostOne before after = (after ≡ before) ⊎ (after ≡ once_more before)

@@ -10,7 +10,7 @@ use Rattle.bt_top.specs.Kept.{Keeps}
 use Rattle.bt_top.specs.Openings.{IsPartOf}
 use Rattle.bt_desk.specs.declared.report.Ending.TheVariants as ending
 use Rattle.bt_top.specs.Lines.{run_lines}
-use Rattle.bt_top.specs.Run.{CountSays, FileSays, LeavesOthers, KeepsNothing}
+use Rattle.bt_top.specs.Run.{CountSays, FileSays, LeavesOthers, KeepsNothing, TakesAtMostOne}
 use Rattle.bt_top.specs.Statuses.{run_status}
 use Rattle.bt_top.specs.declared.status.Status.{Status}
 use Rattle.bt_top.specs.declared.status.Status.TheVariants as statuses
@@ -36,6 +36,8 @@ pub record Went {S K A C I : Type 0} (gs : Source.Ghosts S) (gk : Sink.Ghosts K)
   -- why the configuration was run or not
   pub file : FileSays course (a.files config)
   pub keeps : KeepsBy course gs gk ga a b
+  -- however far it came; where it began, `keep` says that one was taken
+  pub clocks : TakesAtMostOne a.clocks b.clocks
   pub others : LeavesOthers a b
 
 -- the run read its input to the end and a record was refused

@@ -41,6 +41,7 @@ fn read_form<W: World>(alloc: Global, config: &str, world: &mut W) -> Result<boo
     ensures form { IsTrue (W.tells world.new) → IfOk result (λ built. FormIs built ((W.tale world.old).files config.now)) }
     ensures silent { IsTrue (W.tells world.new) → OnOk result ((W.tale world.new).lines ≡ (W.tale world.old).lines) }
     ensures stdin { IsTrue (W.tells world.new) → OnOk result ((W.tale world.new).stdin ≡ (W.tale world.old).stdin) }
+    ensures clocks { IsTrue (W.tells world.new) → (W.tale world.new).clocks ≡ (W.tale world.old).clocks }
     ensures stops { IsTrue (W.tells world.new) → IfErr result (λ course. (answers : Option (List ℕ)) → StopsAt [] course config.now answers (W.tale world.old) (W.tale world.new)) }
     ensures stop { IfErr result IsStop }
     ensures file { IsTrue (W.tells world.new) → IfErr result (λ course. FileSays course ((W.tale world.old).files config.now)) }
@@ -74,6 +75,7 @@ pub(crate) fn read_config<W: World>(
     ensures form { IsTrue (W.tells world.new) → OnOk result (HasBuiltForm ((W.tale world.old).files config.now)) }
     ensures silent { IsTrue (W.tells world.new) → OnOk result ((W.tale world.new).lines ≡ (W.tale world.old).lines) }
     ensures stdin { IsTrue (W.tells world.new) → OnOk result ((W.tale world.new).stdin ≡ (W.tale world.old).stdin) }
+    ensures clocks { IsTrue (W.tells world.new) → (W.tale world.new).clocks ≡ (W.tale world.old).clocks }
     ensures stops { IsTrue (W.tells world.new) → IfErr result (λ course. (answers : Option (List ℕ)) → StopsAt [] course config.now answers (W.tale world.old) (W.tale world.new)) }
     ensures stop { IfErr result IsStop }
     ensures file { IsTrue (W.tells world.new) → IfErr result (λ course. FileSays course ((W.tale world.old).files config.now)) }
@@ -99,6 +101,7 @@ fn open_sink<W: World>(world: &mut W) -> Result<W::K, Course>
     ensures fresh { IfOk result (λ sink. (W.K.faults sink ≡ 0) × (IsTrue (W.K.tells sink) → (W.K.accepted sink ≡ []) × (W.K.refused sink ≡ []))) }
     ensures silent { IsTrue (W.tells world.new) → OnOk result ((W.tale world.new).lines ≡ (W.tale world.old).lines) }
     ensures stdin { IsTrue (W.tells world.new) → OnOk result ((W.tale world.new).stdin ≡ (W.tale world.old).stdin) }
+    ensures clocks { IsTrue (W.tells world.new) → (W.tale world.new).clocks ≡ (W.tale world.old).clocks }
     ensures stops { IsTrue (W.tells world.new) → IfErr result (λ course. (config : List ℕ) → (answers : Option (List ℕ)) → StopsAt (reading config ∷ []) course config answers (W.tale world.old) (W.tale world.new)) }
     ensures course { IfErr result IsOpeningFault }
     ensures count { IfErr result (λ course. CountSays course (W.file_faults world.old) (W.file_faults world.new) (W.open_faults world.old) (W.open_faults world.new)) }
@@ -135,6 +138,7 @@ fn open_answers<W: World>(
     ensures fresh { IfOk result (λ answerer. (W.A.faults answerer ≡ 0) × (IsTrue (W.A.tells answerer) → W.A.calls answerer ≡ [])) }
     ensures silent { IsTrue (W.tells world.new) → OnOk result ((W.tale world.new).lines ≡ (W.tale world.old).lines) }
     ensures stdin { IsTrue (W.tells world.new) → OnOk result ((W.tale world.new).stdin ≡ (W.tale world.old).stdin) }
+    ensures clocks { IsTrue (W.tells world.new) → (W.tale world.new).clocks ≡ (W.tale world.old).clocks }
     ensures stops { IsTrue (W.tells world.new) → IfErr result (λ course. (config : List ℕ) → StopsAt (reading config ∷ sink_opening ∷ []) course config (option_map (λ path. path.now) answers.entry) (W.tale world.old) (W.tale world.new)) }
     ensures course { IfErr result IsOpeningFault }
     ensures count { IfErr result (λ course. CountSays course (W.file_faults world.old) (W.file_faults world.new) (W.open_faults world.old) (W.open_faults world.new)) }
@@ -163,6 +167,7 @@ fn open_source<W: World>(world: &mut W) -> Result<W::S, Course>
     ensures bytes { IsTrue (W.tells world.new) → IfOk result (λ source. IsTrue (W.S.tells source) → W.S.bytes source ≡ (W.tale world.old).stdin) }
     ensures fresh { IfOk result (λ source. (W.S.faults source ≡ 0) × (IsTrue (W.S.tells source) → W.S.taken source ≡ 0)) }
     ensures silent { IsTrue (W.tells world.new) → OnOk result ((W.tale world.new).lines ≡ (W.tale world.old).lines) }
+    ensures clocks { IsTrue (W.tells world.new) → (W.tale world.new).clocks ≡ (W.tale world.old).clocks }
     ensures stops { IsTrue (W.tells world.new) → IfErr result (λ course. (config : List ℕ) → (answers : Option (List ℕ)) → StopsAt (reading config ∷ sink_opening ∷ answers_opening answers ∷ []) course config answers (W.tale world.old) (W.tale world.new)) }
     ensures course { IfErr result IsOpeningFault }
     ensures count { IfErr result (λ course. CountSays course (W.file_faults world.old) (W.file_faults world.new) (W.open_faults world.old) (W.open_faults world.new)) }
@@ -191,6 +196,7 @@ pub(crate) fn open_all<W: World>(
     ensures bytes { IsTrue (W.tells world.new) → IfOk result (λ opening. IsTrue (W.S.tells opening.source) → W.S.bytes opening.source ≡ (W.tale world.old).stdin) }
     ensures fresh { IfOk result (IsFresh ⟦<W::S as Source>⟧ ⟦<W::K as Sink>⟧ ⟦<W::A as Answerer>⟧) }
     ensures silent { IsTrue (W.tells world.new) → OnOk result ((W.tale world.new).lines ≡ (W.tale world.old).lines) }
+    ensures clocks { IsTrue (W.tells world.new) → (W.tale world.new).clocks ≡ (W.tale world.old).clocks }
     ensures stops { IsTrue (W.tells world.new) → IfErr result (λ course. (config : List ℕ) → StopsAt (reading config ∷ []) course config (option_map (λ path. path.now) answers.entry) (W.tale world.old) (W.tale world.new)) }
     ensures course { IfErr result IsOpeningFault }
     ensures count { IfErr result (λ course. CountSays course (W.file_faults world.old) (W.file_faults world.new) (W.open_faults world.old) (W.open_faults world.new)) }

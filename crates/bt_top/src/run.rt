@@ -6,7 +6,7 @@ ghost use Rattle.bt_intake.specs.Answers.{Standing};
 ghost use Rattle.bt_top.specs.Begin.{IsFresh, Begun, IsBegun, Started, StopsAt};
 ghost use Rattle.bt_top.specs.Kept.{Completes};
 ghost use Rattle.bt_top.specs.Lines.{run_lines};
-ghost use Rattle.bt_top.specs.Run.{CountSays, FileSays, IsStop};
+ghost use Rattle.bt_top.specs.Run.{CountSays, FileSays, IsStop, TakesAtMostOne};
 ghost use Rattle.bt_top.specs.Statuses.{run_status};
 ghost use Rattle.bt_top.specs.Went.{Went, RunsSo};
 ghost use Rattle.bt_top.specs.declared.course.Course.{Course};
@@ -84,6 +84,7 @@ fn start<W: World>(
     ensures started { IsTrue (W.tells world.new) → IfOk result (λ desk. Started ⟦<W::S as Source>⟧ ⟦<W::K as Sink>⟧ ⟦<W::A as Answerer>⟧ config.now (option_map (λ path. path.now) answers.entry) desk (W.tale world.old) (W.tale world.new)) }
     ensures silent { IsTrue (W.tells world.new) → OnOk result ((W.tale world.new).lines ≡ (W.tale world.old).lines) }
     ensures stops { IsTrue (W.tells world.new) → IfErr result (λ course. StopsAt [] course config.now (option_map (λ path. path.now) answers.entry) (W.tale world.old) (W.tale world.new)) }
+    ensures clocks { IsTrue (W.tells world.new) → TakesAtMostOne (W.tale world.old).clocks (W.tale world.new).clocks }
     ensures stop { IfErr result IsStop }
     ensures file { IsTrue (W.tells world.new) → IfErr result (λ course. FileSays course ((W.tale world.old).files config.now)) }
     ensures count { IfErr result (λ course. CountSays course (W.file_faults world.old) (W.file_faults world.new) (W.open_faults world.old) (W.open_faults world.new)) }
