@@ -1,6 +1,7 @@
 pub mod Compared
 pub mod Depths
 pub mod Giving
+pub mod Named
 pub mod Nested
 pub mod Numerals
 pub mod Ordered

@@ -1,4 +1,5 @@
 pub mod Keys
+pub mod Names
 pub mod Order
 pub mod Plain
 pub mod Depth

@@ -8,6 +8,7 @@
 mod copies;
 pub mod fields;
 mod measure;
+pub mod names;
 mod order;
 mod path;
 pub mod read;
@@ -19,6 +20,7 @@ mod write;
 pub use copies::copy;
 pub use fields::Fields;
 pub use measure::depth;
+pub use names::{FunctionId, MethodId, Op, PrefixOp, function_of, method_of};
 pub use order::compare;
 pub use path::path_get;
 pub use read::{JsonFault, read_json};
