@@ -5,9 +5,9 @@
 #![tactic(auto)]
 
 pub mod fault;
-pub mod operators;
+pub mod keywords;
 pub mod tree;
 
 pub use fault::SyntaxFault;
-pub use operators::{Op, PrefixOp};
+pub use keywords::{Keyword, keyword_of};
 pub use tree::{Arg, Branch, Case, Key, MapStmt, Mapping, Member, Query, Stmt, Suffix, Term, Word};
