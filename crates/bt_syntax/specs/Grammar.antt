@@ -45,15 +45,6 @@ free_in _ _ = false
 abbrev pub is_free : Lexeme → Bool
 is_free t = free_in t.kind (reserved t)
 
--- the name of a function: one that isn't reserved, or `meta`
-abbrev pub calls_in : Kind → Option Keyword → Bool
-calls_in k.Name None = true
-calls_in k.Name (Some w.Meta) = true
-calls_in _ _ = false
-
-abbrev pub is_function : Lexeme → Bool
-is_function t = calls_in t.kind (reserved t)
-
 -- a name or a text with its place
 abbrev pub word : Lexeme → Word
 word t = record { at = t.at; text = t.text }
@@ -172,7 +163,8 @@ module _ (I : Query → Lexemes → Type 0) where
     name : (t : Lexeme) → is_free t ≡ true → IsHead (e.Name (word t)) (t ∷ [])
     metadata : (t : Lexeme) → t.kind ≡ k.At → IsHead e.Metadata (t ∷ [])
     meta_key : {x : Key} (t t' : Lexeme) → t.kind ≡ k.At → key_of t' ≡ Some x → IsHead (e.Meta x) (t ∷ t' ∷ [])
-    call : {xs : List (Arg Query)} {u : Lexemes} (t : Lexeme) → is_function t ≡ true → AreArgs xs u → IsHead (e.Call (word t) xs) (t ∷ u)
+    call : {xs : List (Arg Query)} {u : Lexemes} (t : Lexeme) → is_free t ≡ true → AreArgs xs u → IsHead (e.Call (word t) xs) (t ∷ u)
+    meta_call : {xs : List (Arg Query)} {u : Lexemes} (t : Lexeme) → IsReserved w.Meta t → AreArgs xs u → IsHead (e.Call (word t) xs) (t ∷ u)
     parens : {q : Query} {u : Lexemes} → Bracketed k.LeftParen k.RightParen Query I q u → IsHead (e.Paren q) u
     «list» : {qs : List Query} {u : Lexemes} → Bracketed k.LeftBracket k.RightBracket (List Query) (Listed Query I) qs u → IsHead (e.List qs) u
     object : {xs : List (Member Query)} {u : Lexemes} → Bracketed k.LeftBrace k.RightBrace (List (Member Query)) (Listed (Member Query) IsMember) xs u → IsHead (e.Object xs) u

@@ -29,8 +29,8 @@ use Rattle.bt_syntax.specs.declared.tree.Stmt.TheVariants as st
 use Rattle.bt_syntax.specs.declared.tree.Mapping.{Mapping}
 use Rattle.bt_syntax.specs.declared.tree.Mapping.TheVariants as m
 use Rattle.bt_syntax.specs.Lexemes.{Lexeme, Lexemes, reserved}
-use Rattle.bt_syntax.specs.Grammar.{word, key_of, token_head, segment_of, prefix_op, product_op, sum_op, comparison_op, is_free, is_function, separates_cases, separates_statements}
-use Rattle.bt_syntax.specs.Reading.{Reader, Deep, map_res, seq, mapped, pure, stuck, token, starts, branch, many, always}
+use Rattle.bt_syntax.specs.Grammar.{word, key_of, token_head, segment_of, prefix_op, product_op, sum_op, comparison_op, is_free, separates_cases, separates_statements}
+use Rattle.bt_syntax.specs.Reading.{Reader, Deep, map_res, seq, mapped, pure, token, starts, branch, many, always}
 
 -- ---- one token
 
@@ -255,16 +255,16 @@ module _ (inner : Reader Query) where
   unfoldable pub metadata : Reader Query
   metadata = behind k.At key_or_all
 
-  abbrev pub name_alone : Option Keyword → Lexeme → Reader Query
-  name_alone None t = pure (e.Name (word t))
-  name_alone (Some v) t = stuck
-
   abbrev pub call_or_name : Lexeme → Reader Query
-  call_or_name t = branch (is k.LeftParen) (mapped (e.Call (word t)) args) (name_alone (reserved t) t)
+  call_or_name t = branch (is k.LeftParen) (mapped (e.Call (word t)) args) (pure (e.Name (word t)))
 
-  -- a name, and its arguments where `(` follows; after `meta` it must
+  -- a name, and its arguments where `(` follows
   unfoldable pub named : Reader Query
-  named = seq (passing is_function) call_or_name
+  named = seq (passing is_free) call_or_name
+
+  -- `meta` and its arguments
+  unfoldable pub meta_call : Reader Query
+  meta_call = seq (expect_reserved w.Meta) (λ t. mapped (e.Call (word t)) args)
 
   unfoldable pub token_alone : Reader Query
   token_alone = token token_head
@@ -272,7 +272,7 @@ module _ (inner : Reader Query) where
   unfoldable pub head : Reader Query
   head =
       branch (is k.LeftParen) parens (branch (is k.LeftBracket) list_head (branch (is k.LeftBrace) object_head
-      (branch (is k.At) metadata (branch is_function named token_alone))))
+      (branch (is k.At) metadata (branch is_free named (branch (is_reserved w.Meta) meta_call token_alone)))))
 
   -- ---- suffixes
 

@@ -33,10 +33,6 @@ mapped f p ts = map_res f (p ts)
 abbrev pub pure : {A : Type 0} → A → Reader A
 pure a ts = Got a ts
 
--- never anything
-abbrev pub stuck : {A : Type 0} → Reader A
-stuck ts = Stuck ts
-
 -- a token that stands for a value
 abbrev pub token_as : {A : Type 0} → Option A → Lexeme → Lexemes → Res A
 token_as (Some a) t rest = Got a rest
