@@ -28,6 +28,10 @@ starts_not h (t ∷ u) rest e = e
 abbrev pub Either : {A : Type 0} → (Lexeme → Bool) → (A → Lexemes → Type 0) → (A → Lexemes → Type 0) → A → Lexemes → Type 0
 Either h R S a u = (R a u × (starts h u ≡ true)) ⊎ (S a u × (starts h u ≡ false))
 
+pub either_some : {A : Type 0} (h : Lexeme → Bool) (R S : A → Lexemes → Type 0) (a : A) (u : Lexemes) → (S a u → u ≡ [] → ⊥) → Either h R S a u → u ≡ [] → ⊥
+either_some h R S a u second (inl (r, b)) e = let b' : false ≡ true = ap (starts h) (sym e) ∙ b in cc
+either_some h R S a u second (inr (s, b)) e = second s e
+
 module _ {A : Type 0} {k n i j : ℕ} {c : A → Lexeme → Bool} {R S : ℕ → A → Lexemes → Type 0} {p q : Reader A} (h : Lexeme → Bool)
     (P : Lawful A k n i j c R p) (Q : Lawful A k n i j c S q)
     (some : (m : ℕ) (a : A) (u : Lexemes) → R m a u → u ≡ [] → ⊥)

@@ -1,15 +1,17 @@
 -- The forms that the grammar's rules are made of are read rightly where their parts are.
 use Rattle.std.proofs.Common.{◌≡◌, ℕ, suc, ◌+◌, Bool, true, false, List, [], ◌∷◌, ◌++◌, Option, Some, refl, sym, ap, ◌∙◌, subst, add-one, add-zero, arith}
 use Rattle.bt_lexer.specs.declared.token.Kind.{Kind}
+use Rattle.bt_syntax.specs.declared.keywords.Keyword.{Keyword}
 use Rattle.bt_syntax.specs.Lexemes.{Lexeme, Lexemes}
+use Rattle.bt_syntax.specs.Grammar.{IsReserved}
 use Rattle.bt_syntax.specs.Brackets.{step, opens, closes}
 use Rattle.bt_syntax.specs.Rules.{Repeated, none, more, Behind, behind, Bracketed, bracketed}
 use Rattle.bt_syntax.specs.Reading.{Reader, seq, mapped, token, many, always}
 use Rattle.bt_syntax.specs.Readers as r
-use Rattle.bt_syntax.specs.Readers.{is, is_not, only, passing, expect, followed, firsts, comma_after, element, elements, with_first}
+use Rattle.bt_syntax.specs.Readers.{is, is_not, only, passing, expect, followed, firsts, comma_after, element, elements, with_first, expect_reserved, is_reserved}
 use Rattle.bt_syntax.proofs.Lawful.{Stops, stops_wider, stops_nothing, Lawful, Seq, Image, nothing, seq_lawful, map_lawful, same_lawful, shift_lawful, token_lawful}
 use Rattle.bt_syntax.proofs.Many.{Begins, Turns, turns_lawful}
-use Rattle.bt_syntax.proofs.TokenLemmas.{is_kind, kind_is, only_is, Flat, sample}
+use Rattle.bt_syntax.proofs.TokenLemmas.{is_kind, kind_is, only_is, Flat, sample, is_word, word_is, word_kind, sample_word, sample_reserved}
 
 -- ---- a token, and what stands behind it
 
@@ -47,6 +49,17 @@ module _ {B : Type 0} {k n i j l : ℕ} {d : B → Lexeme → Bool} {S : ℕ →
       (after_lawful (is kd) (λ t h d. (let e = is_kind kd t h in rw e (level d))) (sample kd, kind_is kd (sample kd) refl) Q) (λ m. AfterMark kd (S m))
       (λ m b w (t, v, e, h, s). (t, v, e, is_kind kd t h, s))
       (λ m b w (t, v, e, h, s). (t, v, e, kind_is kd t h, s))
+
+abbrev pub AfterWord : {B : Type 0} → Keyword → (Lexeme → B → Lexemes → Type 0) → B → Lexemes → Type 0
+AfterWord x S b w = (t : Lexeme) × (v : Lexemes) × (w ≡ t ∷ v) × IsReserved x t × S t b v
+
+module _ {B : Type 0} {k n i l : ℕ} {d : B → Lexeme → Bool} {S : ℕ → Lexeme → B → Lexemes → Type 0} {q : Lexeme → Reader B} (x : Keyword) (Q : (t : Lexeme) → Lawful B k n i l d (λ m. S m t) (q t)) where
+  pub after_word_lawful : Lawful B k n i l d (λ m. AfterWord x (S m)) (seq (expect_reserved x) q)
+  unfolding expect_reserved
+  after_word_lawful = same_lawful
+      (after_lawful (is_reserved x) (λ t h d. (let e = word_kind x t (is_word x t h) in rw e refl)) (sample_word x, word_is x (sample_word x) (sample_reserved x)) Q) (λ m. AfterWord x (S m))
+      (λ m b w (t, v, e, h, s). (t, v, e, is_word x t h, s))
+      (λ m b w (t, v, e, h, s). (t, v, e, word_is x t h, s))
 
 flat_at : (kd : Kind) (i : ℕ) → Flat kd → (d : ℕ) → step (d + i) kd ≡ d + i
 flat_at kd i flat d = flat (d + i)

@@ -4,3 +4,7 @@ pub mod Many
 pub mod TokenLemmas
 pub mod Forms
 pub mod Lists
+pub mod FirstTokens
+pub mod Layers
+pub mod ArgumentLemmas
+pub mod HeadLemmas

@@ -14,6 +14,9 @@ Begins h u = (t : Lexeme) × (v : Lexemes) × (u ≡ t ∷ v) × (h t ≡ true)
 pub starts_begins : (h : Lexeme → Bool) (u rest : Lexemes) → Begins h u → starts h (u ++ rest) ≡ true
 starts_begins h u rest (t, v, e, b) = rw e b
 
+pub begins_some : (h : Lexeme → Bool) (u : Lexemes) → Begins h u → u ≡ [] → ⊥
+begins_some h u (t, v, e, b) e' = let e'' : t ∷ v ≡ [] = sym e ∙ e' in cc
+
 -- no turn follows, where none may
 abbrev pub IfGoes : {A : Type 0} → Bool → List A → Lexemes → Type 0 → Type 0
 IfGoes true xs v P = P

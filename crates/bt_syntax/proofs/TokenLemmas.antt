@@ -1,5 +1,5 @@
 -- Kinds and reserved names of tokens, samples of them, and which tokens go on behind a part of a query.
-use Rattle.std.proofs.Common.{◌≡◌, ℕ, ◌≤◌, Bool, true, false, List, [], Option, Some, None, codes, refl, sym, ap, ◌∙◌, arith, rules, nat_lt}
+use Rattle.std.proofs.Common.{◌≡◌, ℕ, ◌≤◌, Bool, true, false, List, [], Option, Some, None, codes, refl, sym, ap, ◌∙◌, arith, rules, nat_lt, is_some}
 use Rattle.std.proofs.lemmas.Bool.Decides.{nat_tests}
 use denote.Enum.Bare.{same_true, true_same}
 use Rattle.bt_lexer.specs.declared.token.Kind.{Kind}
@@ -8,10 +8,11 @@ use Rattle.bt_lexer.specs.contracts.token.Kind.{the_type}
 use Rattle.bt_syntax.specs.declared.keywords.Keyword.{Keyword}
 use Rattle.bt_syntax.specs.declared.keywords.Keyword.TheVariants as w
 use Rattle.bt_syntax.specs.contracts.keywords.Keyword as keyword
-use Rattle.bt_syntax.specs.Lexemes.{Lexeme, reserved}
+use Rattle.bt_syntax.specs.Lexemes.{Lexeme, reserved, reserved_in}
 use Rattle.bt_syntax.specs.Brackets.{step}
-use Rattle.bt_syntax.specs.Grammar.{IsReserved}
-use Rattle.bt_syntax.specs.Readers.{is, is_reserved, same_keyword, only}
+use Rattle.bt_syntax.specs.declared.tree.Key.{Key}
+use Rattle.bt_syntax.specs.Grammar.{IsReserved, key_in, free_in, is_free}
+use Rattle.bt_syntax.specs.Readers.{is, is_reserved, same_keyword, only, is_key}
 
 pub is_kind : (a : Kind) (t : Lexeme) → is a t ≡ true → t.kind ≡ a
 is_kind a t h = sym (same_true the_type (search rules) a t.kind h)
@@ -42,6 +43,10 @@ name_kind _ t v e h = absurd (let h' = rw e at h in cc)
 
 pub word_kind : (v : Keyword) (t : Lexeme) → IsReserved v t → t.kind ≡ k.Name
 word_kind v t h = name_kind t.kind t v refl h
+
+pub no_word : (kd : Kind) → ((u : List ℕ) → reserved_in kd u ≡ None) → (t : Lexeme) → t.kind ≡ kd → reserved t ≡ None
+unfolding reserved
+no_word kd f t h = ap (λ y. reserved_in y t.text) h ∙ f t.text
 
 -- ---- no bracket
 
@@ -127,3 +132,47 @@ ender n small kd r a t h = ranks (rank t.kind) n small (ap rank h ∙ r)
   where
     ranks : (r n : ℕ) → n ≤ 10 → r ≡ 10 → nat_lt r n ≡ false
     ranks r n small e = grind (arith, nat_tests)
+
+-- a mark that goes on isn't next where nothing goes on
+pub ends_mark : {A : Type 0} (n : ℕ) (kd : Kind) → nat_lt (rank kd) n ≡ true → (a : A) (t : Lexeme) → below n a t ≡ false → is kd t ≡ false
+ends_mark n kd h a t e = go (is kd t) refl
+  where
+    go : (b : Bool) → is kd t ≡ b → b ≡ false
+    go true s = absurd (let k' = is_kind kd t s in let e' : true ≡ false = sym h ∙ ap (λ y. nat_lt (rank y) n) (sym k') ∙ e in cc)
+    go false s = refl
+
+pub ends_word : {A : Type 0} (n : ℕ) (v : Keyword) → nat_lt 1 n ≡ true → (a : A) (t : Lexeme) → below n a t ≡ false → is_reserved v t ≡ false
+ends_word n v h a t e = go (is_reserved v t) refl
+  where
+    go : (b : Bool) → is_reserved v t ≡ b → b ≡ false
+    go true s = absurd (let k' = word_kind v t (is_word v t s) in let e' : true ≡ false = sym h ∙ ap (λ y. nat_lt (rank y) n) (sym k') ∙ e in cc)
+    go false s = refl
+
+-- ---- keys and names
+
+pub key_flat : (kd : Kind) (u : List ℕ) (x : Key) → key_in kd u ≡ Some x → Flat kd
+key_flat k.Name u x h = λ d. refl
+key_flat k.Text u x h = λ d. refl
+key_flat _ u x h = absurd (cc)
+
+key_rank : (kd : Kind) (u : List ℕ) → is_some (key_in kd u) ≡ true → rank kd ≡ 1
+key_rank k.Name u h = refl
+key_rank k.Text u h = refl
+key_rank _ u h = absurd (cc)
+
+pub ends_key : {A : Type 0} (n : ℕ) → nat_lt 1 n ≡ true → (a : A) (t : Lexeme) → below n a t ≡ false → is_key t ≡ false
+ends_key n h a t e = go (is_key t) refl
+  where
+    go : (b : Bool) → is_key t ≡ b → b ≡ false
+    go true s = absurd (let r = key_rank t.kind t.text s in let e' : true ≡ false = sym h ∙ ap (λ y. nat_lt y n) (sym r) ∙ e in cc)
+    go false s = refl
+
+free_name : (kd : Kind) (o : Option Keyword) → free_in kd o ≡ true → kd ≡ k.Name
+free_name k.Name o h = refl
+free_name _ o h = absurd (cc)
+
+pub free_kind : (t : Lexeme) → is_free t ≡ true → t.kind ≡ k.Name
+free_kind t h = free_name t.kind (reserved t) h
+
+pub word_not_free : (v : Keyword) (t : Lexeme) → IsReserved v t → is_free t ≡ false
+word_not_free v t h = let e = word_kind v t h in rw h (rw e refl)
