@@ -148,6 +148,9 @@ repeated_follows A R c d h first over wide _ _ rest (more {a} {rest = xs} {u} {v
     let (t, x, e', b) = first a u s' in
     rw e' (over t b)
 
+pub repeated_none : (A : Type 0) (R : A → Lexemes → Type 0) (v : Lexemes) → Repeated A R [] v → v ≡ []
+repeated_none A R _ none = refl
+
 -- a part, and parts behind it that make one value with it
 abbrev pub Chain : {A B C : Type 0} → (A → Lexemes → Type 0) → (B → Lexemes → Type 0) → (A → List B → C) → C → Lexemes → Type 0
 Chain {A} {B} R T f x w = (a : A) × (u : Lexemes) × (xs : List B) × (v : Lexemes) × (w ≡ u ++ v) × R a u × Repeated B T xs v × (x ≡ f a xs)

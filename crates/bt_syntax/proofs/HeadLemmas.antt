@@ -71,7 +71,7 @@ token_not_mark kd no_head t q h = go (is kd t) refl
     go true s = absurd (let e : None ≡ Some q = sym (no_head t) ∙ ap (λ y. head_in y t) (sym (is_kind kd t s)) ∙ h in cc)
     go false s = refl
 
-starts_at : (h : Lexeme → Bool) (t : Lexeme) (u v : Lexemes) (b : Bool) → u ≡ t ∷ v → h t ≡ b → starts h u ≡ b
+pub starts_at : (h : Lexeme → Bool) (t : Lexeme) (u v : Lexemes) (b : Bool) → u ≡ t ∷ v → h t ≡ b → starts h u ≡ b
 starts_at h t u v b e s = rw e s
 
 module _ {fuel n : ℕ} {inner : Reader Query} (N : Lawful Query fuel n 0 0 (below 9) Nested inner) where

@@ -8,3 +8,5 @@ pub mod FirstTokens
 pub mod Layers
 pub mod ArgumentLemmas
 pub mod HeadLemmas
+pub mod SuffixLemmas
+pub mod OperatorLemmas

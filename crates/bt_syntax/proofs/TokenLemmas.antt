@@ -176,3 +176,15 @@ free_kind t h = free_name t.kind (reserved t) h
 
 pub word_not_free : (v : Keyword) (t : Lexeme) → IsReserved v t → is_free t ≡ false
 word_not_free v t h = let e = word_kind v t h in rw h (rw e refl)
+
+-- ---- tests by rank
+
+pub over_rank : {A : Type 0} (n r : ℕ) → nat_lt r n ≡ false → (a : A) (t : Lexeme) → rank t.kind ≡ r → below n a t ≡ false
+over_rank n r h a t e = ap (λ y. nat_lt y n) e ∙ h
+
+pub ends_test : {A : Type 0} (h : Lexeme → Bool) (n r : ℕ) → ((t : Lexeme) → h t ≡ true → rank t.kind ≡ r) → nat_lt r n ≡ true → (a : A) (t : Lexeme) → below n a t ≡ false → h t ≡ false
+ends_test h n r ranks low a t e = go (h t) refl
+  where
+    go : (b : Bool) → h t ≡ b → b ≡ false
+    go true s = absurd (let e' : true ≡ false = sym low ∙ ap (λ y. nat_lt y n) (sym (ranks t s)) ∙ e in cc)
+    go false s = refl
