@@ -10,3 +10,7 @@ pub mod ArgumentLemmas
 pub mod HeadLemmas
 pub mod SuffixLemmas
 pub mod OperatorLemmas
+pub mod LogicLemmas
+pub mod MatchLemmas
+pub mod IfLemmas
+pub mod QueryLemmas
