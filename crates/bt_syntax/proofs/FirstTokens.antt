@@ -152,10 +152,10 @@ module _ (I : Query → Lexemes → Type 0) where
   plain_begins q u (g.logic s) = logic_begins q u s
   plain_begins _ _ (g.first_of {q} {r} {qs} {u} {v} s m) = begins_more plain_first u v (unary_begins q u s)
 
-  match_begins : (q : Query) (u : Lexemes) → IsMatch I q u → Begins (is_reserved w.Match) u
+  pub match_begins : (q : Query) (u : Lexemes) → IsMatch I q u → Begins (is_reserved w.Match) u
   match_begins _ _ (g.«match» {q} {xs} {u} {v} t h s s') = (t, u ++ v, refl, word_is w.Match t h)
 
-  if_begins : (q : Query) (u : Lexemes) → IsIf I q u → Begins (is_reserved w.If) u
+  pub if_begins : (q : Query) (u : Lexemes) → IsIf I q u → Begins (is_reserved w.If) u
   if_begins _ _ (g.«if» {x} {xs} {q} {u} {v} t h s s') = (t, u ++ v, refl, word_is w.If t h)
 
   pub query_begins : (q : Query) (u : Lexemes) → IsQuery I q u → Begins query_first u

@@ -85,7 +85,7 @@ module _ (I : Query → Lexemes → Type 0) where
   logic_unary _ _ (g.all_of {q} {r} {qs} {u} {v} s m) h = not_unary _ _ (out-And q (r ∷ qs)) refl h
   logic_unary _ _ (g.any_of {q} {r} {qs} {u} {v} s m) h = not_unary _ _ (out-Or q (r ∷ qs)) refl h
 
-  unary_logic : (q : Query) (u : Lexemes) → IsUnary I q u → IsLogic I q u
+  pub unary_logic : (q : Query) (u : Lexemes) → IsUnary I q u → IsLogic I q u
   unary_logic q u s = g.comparison_alone (g.sum_alone (g.product_alone (g.unary_alone s)))
 
 module _ {fuel n : ℕ} {inner : Reader Query} (N : Lawful Query fuel n 0 0 (below 9) Nested inner) where

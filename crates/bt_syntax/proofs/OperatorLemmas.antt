@@ -79,7 +79,7 @@ head_not_prefix kinds.Bang o h = absurd (cc)
 head_not_prefix kinds.Minus o h = absurd (cc)
 head_not_prefix _ o h = refl
 
-null_item : (I : Query → Lexemes → Type 0) → IsItem I e.Null (sample_word w.Null ∷ [])
+pub null_item : (I : Query → Lexemes → Type 0) → IsItem I e.Null (sample_word w.Null ∷ [])
 unfolding reserved
 null_item I = g.head_alone (g.IsHead.token (sample_word w.Null) refl)
 
