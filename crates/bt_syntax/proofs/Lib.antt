@@ -14,3 +14,4 @@ pub mod LogicLemmas
 pub mod MatchLemmas
 pub mod IfLemmas
 pub mod QueryLemmas
+pub mod StatementLemmas

@@ -23,7 +23,7 @@ use Rattle.bt_syntax.proofs.IfLemmas.{if_lawful}
 null_plain : (I : Query → Lexemes → Type 0) → IsPlain I e.Null (sample_word w.Null ∷ [])
 null_plain I = g.logic (unary_logic I e.Null (sample_word w.Null ∷ []) (g.item_alone (null_item I)))
 
-other_word : (v x : Keyword) → same_keyword v (Some x) ≡ false → (t : Lexeme) → IsReserved x t → is_reserved v t ≡ false
+pub other_word : (v x : Keyword) → same_keyword v (Some x) ≡ false → (t : Lexeme) → IsReserved x t → is_reserved v t ≡ false
 other_word v x h t s = ap (same_keyword v) s ∙ h
 
 module _ {fuel n : ℕ} {inner : Reader Query} (N : Lawful Query fuel n 0 0 (below 9) Nested inner) where
