@@ -15,3 +15,5 @@ pub mod MatchLemmas
 pub mod IfLemmas
 pub mod QueryLemmas
 pub mod StatementLemmas
+pub mod TargetLemmas
+pub mod BeginLemmas
