@@ -17,3 +17,4 @@ pub mod QueryLemmas
 pub mod StatementLemmas
 pub mod TargetLemmas
 pub mod BeginLemmas
+pub mod DraftLemmas
