@@ -18,3 +18,5 @@ pub mod StatementLemmas
 pub mod TargetLemmas
 pub mod BeginLemmas
 pub mod DraftLemmas
+pub mod WholeLists
+pub mod MappingLemmas

@@ -99,12 +99,27 @@ module _ {A : Type 0} {k n : ℕ} (top : ℕ) {R : ℕ → A → Lexemes → Typ
 
 -- ---- one or more, with a separator between them
 
+-- turns, each of a separator and a part
+abbrev pub TurnOf : {A : Type 0} → (Kind → Bool) → (A → Lexemes → Type 0) → A → Lexemes → Type 0
+TurnOf separates R = After (λ t. separates t.kind) (λ t. R)
+
+module _ (separates : Kind → Bool) (A : Type 0) (R : A → Lexemes → Type 0) where
+  pub separated_into : (a : A) (u : Lexemes) (xs : List A) (v : Lexemes) → R a u → Repeated A (TurnOf separates R) xs v → Separated separates A R (a ∷ xs) (u ++ v)
+  separated_into a u _ _ s none = rw append-nil (single s)
+  separated_into a u _ _ s (more {a = b} {rest} {u = u'} {v} (t, v', e, h, s') tl) = rw e (rules.Separated.then t s h (separated_into b v' rest v s' tl))
+
+  pub separated_from : (xs : List A) (w : Lexemes) → Separated separates A R xs w → Chain R (TurnOf separates R) with_first xs w
+  separated_from _ _ (single {a} {u} s) = (a, u, [], [], simp append-nil, s, none, refl)
+  separated_from _ _ (rules.Separated.then {a} {rest} {u} {v} t s h tl) =
+      let (b, u', xs, v', e, s', r, same) = separated_from rest v tl in
+      (a, u, rest, t ∷ v, refl, s, subst (λ y. Repeated A (TurnOf separates R) y (t ∷ v)) (sym same) (subst (λ y. Repeated A (TurnOf separates R) (b ∷ xs) (t ∷ y)) (sym e) (more (t, u', refl, h, s') r)), refl)
+
 module _ {A : Type 0} {k n : ℕ} {c : A → Lexeme → Bool} {R : ℕ → A → Lexemes → Type 0} {p : Reader A} (separates : Kind → Bool) (d : Lexeme → Bool) (P : Lawful A k n 0 0 c R p)
     (flat : (kd : Kind) → separates kd ≡ true → Flat kd) (kd : Kind) (some : separates kd ≡ true)
     (over : (a : A) (t : Lexeme) → separates t.kind ≡ true → c a t ≡ false)
     (wide : (a : A) (t : Lexeme) → d t ≡ false → c a t ≡ false) (ends : (t : Lexeme) → d t ≡ false → separates t.kind ≡ false) where
   abbrev Turn : ℕ → A → Lexemes → Type 0
-  Turn m = After (λ t. separates t.kind) (λ t. R m)
+  Turn m = TurnOf separates (R m)
 
   turn_lawful : Lawful A k n 0 0 c Turn (seq (passing (λ t. separates t.kind)) (λ _. p))
   turn_lawful = after_lawful {S = λ m t. R m} (λ t. separates t.kind) (λ t h y. flat t.kind h (y + 0)) (sample kd, some) (λ t. P)
@@ -115,21 +130,11 @@ module _ {A : Type 0} {k n : ℕ} {c : A → Lexeme → Bool} {R : ℕ → A →
   pub more_lawful : Lawful (List A) k n 0 0 (λ _. d) (λ m. Repeated A (Turn m)) (r.separated_more (λ t. separates t.kind) p)
   more_lawful = repeated_lawful d (λ t. separates t.kind) turn_lawful turn_begins over wide ends
 
-  pub separated_into : (m : ℕ) (a : A) (u : Lexemes) (xs : List A) (v : Lexemes) → R m a u → Repeated A (Turn m) xs v → Separated separates A (R m) (a ∷ xs) (u ++ v)
-  separated_into m a u _ _ s none = rw append-nil (single s)
-  separated_into m a u _ _ s (more {a = b} {rest} {u = u'} {v} (t, v', e, h, s') tl) = rw e (rules.Separated.then t s h (separated_into m b v' rest v s' tl))
-
-  pub separated_from : (m : ℕ) (xs : List A) (w : Lexemes) → Separated separates A (R m) xs w → Chain (R m) (Turn m) with_first xs w
-  separated_from m _ _ (single {a} {u} s) = (a, u, [], [], simp append-nil, s, none, refl)
-  separated_from m _ _ (rules.Separated.then {a} {rest} {u} {v} t s h tl) =
-      let (b, u', xs, v', e, s', r, same) = separated_from m rest v tl in
-      (a, u, rest, t ∷ v, refl, s, subst (λ y. Repeated A (Turn m) y (t ∷ v)) (sym same) (subst (λ y. Repeated A (Turn m) (b ∷ xs) (t ∷ y)) (sym e) (more (t, u', refl, h, s') r)), refl)
-
   pub separated_lawful : Lawful (List A) k n 0 0 (λ _. d) (λ m. Separated separates A (R m)) (r.separated (λ t. separates t.kind) p)
   separated_lawful = same_lawful (chain_lawful d (λ t. separates t.kind) with_first P turn_lawful turn_begins over wide ends over wide)
       (λ m. Separated separates A (R m))
-      (λ m xs w (a, u, ys, v, e, s, r, same). rw e (rw same (separated_into m a u ys v s r)))
-      separated_from
+      (λ m xs w (a, u, ys, v, e, s, r, same). rw e (rw same (separated_into separates A (R m) a u ys v s r)))
+      (λ m. separated_from separates A (R m))
 
 -- ---- an option
 

@@ -20,7 +20,7 @@ use Rattle.bt_syntax.proofs.LogicLemmas.{plain_lawful, unary_logic}
 use Rattle.bt_syntax.proofs.MatchLemmas.{match_lawful}
 use Rattle.bt_syntax.proofs.IfLemmas.{if_lawful}
 
-null_plain : (I : Query → Lexemes → Type 0) → IsPlain I e.Null (sample_word w.Null ∷ [])
+pub null_plain : (I : Query → Lexemes → Type 0) → IsPlain I e.Null (sample_word w.Null ∷ [])
 null_plain I = g.logic (unary_logic I e.Null (sample_word w.Null ∷ []) (g.item_alone (null_item I)))
 
 pub other_word : (v x : Keyword) → same_keyword v (Some x) ≡ false → (t : Lexeme) → IsReserved x t → is_reserved v t ≡ false
