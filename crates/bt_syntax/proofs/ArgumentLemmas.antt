@@ -1,5 +1,5 @@
 -- Arguments are read rightly.
-use Rattle.std.proofs.Common.{◌≡◌, ℕ, zero, suc, Bool, true, false, not, List, [], ◌∷◌, ◌++◌, Option, Some, None, ◌⊎◌, inl, inr, refl, sym, ap, ◌∙◌, subst, append-nil, lit≤, pos}
+use Rattle.std.proofs.Common.{◌≡◌, ℕ, zero, suc, true, List, [], ◌∷◌, ◌++◌, Option, Some, None, inl, inr, refl, sym, ap, ◌∙◌, subst, append-nil, lit≤, pos}
 use Rattle.bt_lexer.specs.declared.token.Kind.{Kind}
 use Rattle.bt_lexer.specs.declared.token.Kind.TheVariants as kinds
 use Rattle.bt_syntax.specs.declared.tree.Query.{Query, out-Query}
@@ -10,16 +10,16 @@ use Rattle.bt_syntax.specs.declared.tree.Arg.TheVariants as a
 use Rattle.bt_syntax.specs.declared.keywords.Keyword.{Keyword}
 use Rattle.bt_syntax.specs.declared.keywords.Keyword.TheVariants as w
 use Rattle.bt_syntax.specs.Lexemes.{Lexeme, Lexemes, reserved, number}
-use Rattle.bt_syntax.specs.Rules.{Listed, Behind, behind, Bracketed}
+use Rattle.bt_syntax.specs.Rules.{Listed, Behind, behind}
 use Rattle.bt_syntax.specs.Grammar as g
 use Rattle.bt_syntax.specs.Grammar.{is_free, token_head, head_in, reserved_head, word, IsMatch, IsIf, IsArg, AreArgs, IsHead, IsItem, IsUnary, IsProduct, IsSum, IsComparison, IsLogic, IsPlain, IsQuery, Nested}
-use Rattle.bt_syntax.specs.Reading.{Reader, seq, mapped, pure, branch, starts}
+use Rattle.bt_syntax.specs.Reading.{Reader}
 use Rattle.bt_syntax.specs.Readers as r
 use Rattle.bt_syntax.specs.Readers.{is, is_not, name_of, name_in, lambda_or, lambda_after}
-use Rattle.bt_syntax.proofs.Lawful.{Stops, stops_wider, Lawful, Seq, Nil, Image, nothing, seq_lawful, map_lawful, same_lawful, wider_lawful, pure_lawful}
+use Rattle.bt_syntax.proofs.Lawful.{Stops, stops_wider, Lawful, Seq, Nil, Image, nothing, seq_lawful, map_lawful, same_lawful, pure_lawful}
 use Rattle.bt_syntax.proofs.Branches.{Either, branch_lawful}
 use Rattle.bt_syntax.proofs.Many.{Begins, begins_some}
-use Rattle.bt_syntax.proofs.TokenLemmas.{is_kind, kind_is, sample, rank, below, below_wider, ender, ends_mark, Flat}
+use Rattle.bt_syntax.proofs.TokenLemmas.{kind_is, below, below_wider, ends_mark}
 use Rattle.bt_syntax.proofs.Forms.{behind_lawful, behind_begins, bracketed_lawful}
 use Rattle.bt_syntax.proofs.Lists.{listed_lawful}
 use Rattle.bt_syntax.proofs.Layers.{out-Null, out-True, out-False, out-Int, out-Quoted, out-This, out-Root, out-Name, out-Var, out-Metadata, out-Meta, out-Call, out-Paren, out-List, out-Object, out-Item, out-Prefix, out-Product, out-Sum, out-Compare, out-And, out-Or, out-Coalesce, out-Match, out-If}
@@ -164,9 +164,14 @@ module _ {fuel n : ℕ} {inner : Reader Query} (N : Lawful Query fuel n 0 0 (bel
   unfolding LambdaTail ArgParts
   arg_from m _ _ (g.plain_arg {q} {u} s) = (q, u, [], simp append-nil, s, plain_tail m q (name_of q))
   arg_from m _ _ (g.lambda {q} {u} t arrow h h' s) =
-      let n : name_of (e.Name (word t)) ≡ Some t.text = ap name_in (out-Name (word t)) in
-      (e.Name (word t), t ∷ [], arrow ∷ u, refl, name_nested m q u s t h,
-        subst (λ o. LambdaTail m (e.Name (word t)) o (a.Lambda t.text q) (arrow ∷ u)) (sym n) (inl ((q, refl, behind arrow h' s), kind_is kinds.Arrow arrow h')))
+      let n : name_of (e.Name (word t)) ≡ Some t.text = ap name_in (out-Name (word t)) in (
+        e.Name (word t),
+        t ∷ [],
+        arrow ∷ u,
+        refl,
+        name_nested m q u s t h,
+        subst (λ o. LambdaTail m (e.Name (word t)) o (a.Lambda t.text q) (arrow ∷ u)) (sym n) (inl ((q, refl, behind arrow h' s), kind_is kinds.Arrow arrow h')),
+      )
 
   pub arg_lawful : Lawful (Arg Query) fuel n 0 0 (below 10) (λ m. IsArg (Nested m)) (r.arg inner)
   unfolding r.arg ArgParts

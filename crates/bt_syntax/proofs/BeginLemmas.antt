@@ -1,5 +1,5 @@
 -- The first two tokens tell a query from a statement that begins with `let`, `map` or `meta`.
-use Rattle.std.proofs.Common.{◌≡◌, ℕ, zero, suc, Bool, true, false, not, List, [], ◌∷◌, ◌++◌, Option, Some, None, ◌⊎◌, inl, inr, refl, sym, ap, ◌∙◌, subst, append_assoc}
+use Rattle.std.proofs.Common.{◌≡◌, ℕ, Bool, true, false, not, List, [], ◌∷◌, ◌++◌, Option, Some, None, refl, sym, ap, ◌∙◌, append_assoc}
 use Rattle.bt_lexer.specs.declared.token.Kind.{Kind}
 use Rattle.bt_lexer.specs.declared.token.Kind.TheVariants as kinds
 use Rattle.bt_value.specs.declared.names.PrefixOp.{PrefixOp}
@@ -16,7 +16,7 @@ use Rattle.bt_syntax.specs.Grammar.{IsReserved, free_in, is_free, head_in, reser
 use Rattle.bt_syntax.specs.Reading.{starts}
 use Rattle.bt_syntax.specs.Readers.{is, is_reserved, begins_with, begins_statement}
 use Rattle.bt_syntax.proofs.Branches.{starts_more}
-use Rattle.bt_syntax.proofs.TokenLemmas.{is_kind, kind_is, word_is, no_word, key_flat}
+use Rattle.bt_syntax.proofs.TokenLemmas.{kind_is, word_is, no_word}
 use Rattle.bt_syntax.proofs.FirstTokens.{bracketed_begins}
 use Rattle.bt_syntax.proofs.HeadLemmas.{starts_at}
 

@@ -16,7 +16,7 @@ pub starts_more : (h : Lexeme → Bool) (u rest : Lexemes) → starts h u ≡ tr
 starts_more h [] rest e = absurd (cc)
 starts_more h (t ∷ u) rest e = e
 
-starts_front : (h : Lexeme → Bool) (u rest : Lexemes) → (u ≡ [] → ⊥) → starts h (u ++ rest) ≡ true → starts h u ≡ true
+pub starts_front : (h : Lexeme → Bool) (u rest : Lexemes) → (u ≡ [] → ⊥) → starts h (u ++ rest) ≡ true → starts h u ≡ true
 starts_front h [] rest some e = absurd (some refl)
 starts_front h (t ∷ u) rest some e = e
 

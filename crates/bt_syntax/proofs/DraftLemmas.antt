@@ -1,5 +1,5 @@
 -- What a mapping is read as at first is read rightly.
-use Rattle.std.proofs.Common.{◌≡◌, ℕ, zero, suc, Bool, true, false, cond, not, ◌||◌, List, [], ◌∷◌, ◌++◌, Option, Some, None, ◌⊎◌, inl, inr, refl, sym, ap, ◌∙◌, subst, append-nil, append_assoc, nat_lt, ⊎_elim}
+use Rattle.std.proofs.Common.{◌≡◌, ℕ, suc, Bool, true, false, not, List, [], ◌∷◌, ◌++◌, Option, Some, None, ◌⊎◌, inl, inr, refl, sym, ap, ◌∙◌, append-nil, append_assoc, nat_lt, ⊎_elim}
 use Rattle.bt_lexer.specs.declared.token.Kind.TheVariants as kinds
 use Rattle.bt_syntax.specs.declared.keywords.Keyword.{Keyword}
 use Rattle.bt_syntax.specs.declared.keywords.Keyword.TheVariants as w
@@ -15,19 +15,18 @@ use Rattle.bt_syntax.specs.Rules.{Repeated, none, Listed, empty, Separated, sing
 use Rattle.bt_syntax.specs.Rules as rules
 use Rattle.bt_syntax.specs.Grammar as g
 use Rattle.bt_syntax.specs.Grammar.{separates_statements, word, IsReserved, IsQuery, IsStmt, Nested}
-use Rattle.bt_syntax.specs.Reading.{Res, Got, Stuck, Deep, Reader, seq, mapped, pure, branch, starts}
+use Rattle.bt_syntax.specs.Reading.{Got, Stuck, Deep, Reader, mapped, starts}
 use Rattle.bt_syntax.specs.Readers as r
 use Rattle.bt_syntax.specs.Readers.{is, is_reserved, same_keyword, target_of, Draft, Alone, Assigned, All, begins_with, begins_statement}
-use Rattle.bt_syntax.proofs.Lawful.{Stops, DeadAt, SameHead, Read, Blocked, Opens, Lawful, Seq, Nil, Image, nothing, seq_lawful, map_lawful, wider_lawful, pure_lawful}
+use Rattle.bt_syntax.proofs.Lawful.{Stops, DeadAt, SameHead, Read, Blocked, Opens, Lawful, Seq, Nil, Image, seq_lawful, map_lawful, pure_lawful}
 use Rattle.bt_syntax.proofs.Branches.{Either, branch_lawful, starts_same}
 use Rattle.bt_syntax.proofs.Many.{Begins, begins_some}
-use Rattle.bt_syntax.proofs.TokenLemmas.{is_kind, word_is, word_kind, sample, sample_word, sample_reserved, rank, below, over_rank}
+use Rattle.bt_syntax.proofs.TokenLemmas.{is_kind, sample, sample_word, sample_reserved, rank, below, over_rank}
 use Rattle.bt_syntax.proofs.Forms.{behind_begins}
 use Rattle.bt_syntax.proofs.Lists.{or_false, TurnOf, more_lawful, separated_lawful}
-use Rattle.bt_syntax.proofs.FirstTokens.{query_first, query_begins}
-use Rattle.bt_syntax.proofs.QueryLemmas.{query_by_lawful, null_plain, other_word}
+use Rattle.bt_syntax.proofs.QueryLemmas.{query_by_lawful, null_plain}
 use Rattle.bt_syntax.proofs.StatementLemmas.{line_flat, line_rank, stmts_cont, assigned_lawful, stmt_lawful}
-use Rattle.bt_syntax.proofs.BeginLemmas.{query_calm, stmts_begin, stmts_some}
+use Rattle.bt_syntax.proofs.BeginLemmas.{query_calm, stmts_begin}
 
 -- which tokens go on behind a whole list: any
 abbrev pub anything : {A : Type 0} → A → Lexeme → Bool
@@ -92,21 +91,30 @@ Stmts m = Separated separates_statements Stmt (IsStmt (Nested m))
 abbrev pub MoreStmts : ℕ → List Stmt → Lexemes → Type 0
 MoreStmts m = Repeated Stmt (TurnOf separates_statements (IsStmt (Nested m)))
 
-pub FirstTail : ℕ → ℕ × List Key → Draft → Lexemes → Type 0
+unfoldable pub FirstTail : ℕ → ℕ × List Key → Draft → Lexemes → Type 0
 FirstTail m x = Seq (Behind kinds.Assign Query (IsQuery (Nested m))) (λ q. Image (Assigned (x.0) (x.1) q) (MoreStmts m))
 
-pub DraftTail : ℕ → Query → Option (ℕ × List Key) → Draft → Lexemes → Type 0
+unfoldable pub DraftTail : ℕ → Query → Option (ℕ × List Key) → Draft → Lexemes → Type 0
 DraftTail m q None = Nil (Alone q)
 DraftTail m q (Some x) = Either (is kinds.Assign) (FirstTail m x) (Nil (Alone q))
 
-pub QueryFirst : ℕ → Draft → Lexemes → Type 0
+unfoldable pub QueryFirst : ℕ → Draft → Lexemes → Type 0
 QueryFirst m = Seq (IsQuery (Nested m)) (λ q. DraftTail m q (target_of q))
 
-pub StmtsFirst : ℕ → Draft → Lexemes → Type 0
+unfoldable pub StmtsFirst : ℕ → Draft → Lexemes → Type 0
 StmtsFirst m d u = Image All (Stmts m) d u × (starts (is_reserved w.Root) u ≡ false)
 
-pub AnyDraft : ℕ → Draft → Lexemes → Type 0
+unfoldable pub AnyDraft : ℕ → Draft → Lexemes → Type 0
 AnyDraft m d u = StmtsFirst m d u ⊎ QueryFirst m d u
+
+pub draft_alone : (m : ℕ) (q : Query) (o : Option (ℕ × List Key)) → DraftTail m q o (Alone q) []
+unfolding DraftTail
+draft_alone m q None = (refl, refl)
+draft_alone m q (Some x) = inr ((refl, refl), refl)
+
+pub alone_draft : (m : ℕ) (q : Query) (u : Lexemes) → IsQuery (Nested m) q u → QueryFirst m (Alone q) u
+unfolding QueryFirst
+alone_draft m q u s = (q, u, [], simp append-nil, s, draft_alone m q (target_of q))
 
 module _ {fuel n : ℕ} {inner : Reader Query} (N : Lawful Query fuel n 0 0 (below 9) Nested inner) where
   -- ---- statements
@@ -209,10 +217,12 @@ module _ {fuel n : ℕ} {inner : Reader Query} (N : Lawful Query fuel n 0 0 (bel
 
   map_made : (t : Lexeme) → IsReserved w.Map t → (x : Stmt) × (u : Lexemes) × IsStmt (Nested n) x (t ∷ u)
   map_made t h =
-      (let (q, u, s) = N.inhabited in
-      (st.Map t.at [] (ms.Let [] q ∷ []), sample kinds.Name ∷ sample kinds.LeftBrace ∷ ((sample_word w.Let ∷ sample kinds.Name ∷ sample kinds.Assign ∷ u) ++ sample kinds.RightBrace ∷ []),
+      (let (q, u, s) = N.inhabited in (
+        st.Map t.at [] (ms.Let [] q ∷ []),
+        sample kinds.Name ∷ sample kinds.LeftBrace ∷ ((sample_word w.Let ∷ sample kinds.Name ∷ sample kinds.Assign ∷ u) ++ sample kinds.RightBrace ∷ []),
         g.«map» t (sample kinds.Name) h refl (bracketed (sample kinds.LeftBrace) (sample kinds.RightBrace) refl
-        (single (g.map_let (sample_word w.Let) (sample kinds.Name) (sample_reserved w.Let) refl (behind (sample kinds.Assign) refl s))) refl)))
+            (single (g.map_let (sample_word w.Let) (sample kinds.Name) (sample_reserved w.Let) refl (behind (sample kinds.Assign) refl s))) refl),
+      ))
 
   stmt_made : (t : Lexeme) → (reserved t ≡ Some w.Let) ⊎ ((reserved t ≡ Some w.Map) ⊎ (reserved t ≡ Some w.Meta)) → (x : Stmt) × (u : Lexemes) × IsStmt (Nested n) x (t ∷ u)
   stmt_made t (inl h) = let_made t h
@@ -229,15 +239,6 @@ module _ {fuel n : ℕ} {inner : Reader Query} (N : Lawful Query fuel n 0 0 (bel
   dead_stmts t rest h dead =
       (let (x, u, s) = stmt_made t (begins_word (reserved t) rest h) in
       not_dead anything (λ m. Image All (Stmts m)) (mapped All (r.statements inner)) all_lawful t (All (x ∷ [])) u (x ∷ [], refl, single s) dead)
-
-  draft_alone : (m : ℕ) (q : Query) (o : Option (ℕ × List Key)) → DraftTail m q o (Alone q) []
-  unfolding DraftTail
-  draft_alone m q None = (refl, refl)
-  draft_alone m q (Some x) = inr ((refl, refl), refl)
-
-  pub alone_draft : (m : ℕ) (q : Query) (u : Lexemes) → IsQuery (Nested m) q u → QueryFirst m (Alone q) u
-  unfolding QueryFirst
-  alone_draft m q u s = (q, u, [], simp append-nil, s, draft_alone m q (target_of q))
 
   meta_query : (t : Lexeme) → IsReserved w.Meta t → IsQuery (Nested n) (e.Call (word t) []) (t ∷ sample kinds.LeftParen ∷ sample kinds.RightParen ∷ [])
   meta_query t h = g.plain_query (g.logic (g.comparison_alone (g.sum_alone (g.product_alone (g.unary_alone (g.item_alone (g.head_alone

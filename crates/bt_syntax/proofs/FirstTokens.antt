@@ -1,5 +1,5 @@
 -- What the parts of a query begin with.
-use Rattle.std.proofs.Common.{◌≡◌, ℕ, zero, suc, Bool, true, false, not, ◌||◌, is_some, List, [], ◌∷◌, ◌++◌, Option, Some, None, refl, sym, ap, ◌∙◌, subst}
+use Rattle.std.proofs.Common.{◌≡◌, ℕ, zero, suc, Bool, true, false, not, ◌||◌, is_some, [], ◌∷◌, ◌++◌, Option, Some, None, refl, ap, ◌∙◌}
 use Rattle.bt_lexer.specs.declared.token.Kind.{Kind}
 use Rattle.bt_lexer.specs.declared.token.Kind.TheVariants as k
 use Rattle.bt_value.specs.declared.names.PrefixOp.{PrefixOp}
@@ -12,7 +12,7 @@ use Rattle.bt_syntax.specs.Grammar as g
 use Rattle.bt_syntax.specs.Grammar.{IsReserved, free_in, is_free, head_in, token_head, reserved_query, reserved_head, prefix_op, IsHead, IsItem, IsUnary, IsProduct, IsSum, IsComparison, IsLogic, IsPlain, IsMatch, IsIf, IsQuery, Nested}
 use Rattle.bt_syntax.specs.Readers.{is, is_not, is_reserved, is_prefix, same_keyword}
 use Rattle.bt_syntax.proofs.Many.{Begins}
-use Rattle.bt_syntax.proofs.TokenLemmas.{is_kind, kind_is, is_word, word_is, word_kind, no_word}
+use Rattle.bt_syntax.proofs.TokenLemmas.{is_kind, is_word, word_is, word_kind, no_word}
 
 abbrev pub name_first : Option Keyword → Bool
 name_first None = true

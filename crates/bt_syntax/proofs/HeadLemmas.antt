@@ -1,5 +1,5 @@
 -- Heads are read rightly.
-use Rattle.std.proofs.Common.{◌≡◌, ℕ, zero, suc, ◌+◌, Bool, true, false, not, List, [], ◌∷◌, ◌++◌, Option, Some, None, is_some, ◌⊎◌, inl, inr, refl, sym, ap, ◌∙◌, subst, append-nil, lit≤}
+use Rattle.std.proofs.Common.{◌≡◌, ℕ, suc, ◌+◌, Bool, true, false, List, [], ◌∷◌, Option, Some, None, is_some, inl, inr, refl, sym, ap, ◌∙◌, lit≤}
 use Rattle.bt_lexer.specs.declared.token.Kind.{Kind}
 use Rattle.bt_lexer.specs.declared.token.Kind.TheVariants as kinds
 use Rattle.bt_syntax.specs.declared.keywords.Keyword.{Keyword}
@@ -14,16 +14,16 @@ use Rattle.bt_syntax.specs.Lexemes.{Lexeme, Lexemes, reserved}
 use Rattle.bt_syntax.specs.Rules.{Listed, Behind, behind, Bracketed}
 use Rattle.bt_syntax.specs.Grammar as g
 use Rattle.bt_syntax.specs.Grammar.{is_free, free_in, IsReserved, key_of, token_head, head_in, reserved_head, word, IsKey, IsArg, IsMember, AreArgs, IsHead, Nested}
-use Rattle.bt_syntax.specs.Reading.{Reader, seq, mapped, pure, branch, starts}
+use Rattle.bt_syntax.specs.Reading.{Reader, branch, starts}
 use Rattle.bt_syntax.specs.Readers as r
 use Rattle.bt_syntax.specs.Readers.{is, is_not, is_key, is_reserved, same_keyword, member_of}
-use Rattle.bt_syntax.proofs.Lawful.{Stops, stops_wider, Lawful, Seq, One, Nil, Image, nothing, seq_lawful, map_lawful, same_lawful, wider_lawful, token_lawful, pure_lawful}
+use Rattle.bt_syntax.proofs.Lawful.{Lawful, One, Nil, Image, nothing, map_lawful, same_lawful, wider_lawful, token_lawful, pure_lawful}
 use Rattle.bt_syntax.proofs.Branches.{Either, either_some, branch_lawful}
 use Rattle.bt_syntax.proofs.Many.{Begins, begins_some}
-use Rattle.bt_syntax.proofs.TokenLemmas.{is_kind, kind_is, word_is, word_kind, sample, sample_word, rank, below, below_wider, ender, ends_mark, ends_key, key_flat, free_kind, word_not_free, no_word, Flat}
+use Rattle.bt_syntax.proofs.TokenLemmas.{is_kind, kind_is, word_is, word_kind, sample, sample_word, below, ends_mark, ends_key, key_flat, free_kind, word_not_free, no_word, Flat}
 use Rattle.bt_syntax.proofs.Forms.{After, AfterMark, AfterWord, after_lawful, after_mark_lawful, after_word_lawful, behind_lawful, behind_begins, bracketed_lawful}
 use Rattle.bt_syntax.proofs.Lists.{listed_lawful}
-use Rattle.bt_syntax.proofs.FirstTokens.{query_first, nested_begins, begins_wider, bracketed_begins, not_bracket, not_brace, head_is_query}
+use Rattle.bt_syntax.proofs.FirstTokens.{query_first, nested_begins, begins_wider, bracketed_begins, not_bracket}
 use Rattle.bt_syntax.proofs.ArgumentLemmas.{args_lawful}
 
 -- ---- a key
@@ -297,8 +297,13 @@ module _ {fuel n : ℕ} {inner : Reader Query} (N : Lawful Query fuel n 0 0 (bel
 
   head_from : (m : ℕ) (q : Query) (u : Lexemes) → IsHead (Nested m) q u → AnyHead m q u
   head_from m _ _ (g.IsHead.token {q} t h) =
-      inr (inr (inr (inr (inr (inr ((t, refl, h), token_not_meta t.kind t q refl h), token_not_free t.kind t q h), token_not_mark kinds.At (λ t. refl) t q h), token_not_mark kinds.LeftBrace (λ t. refl) t q h),
-        token_not_mark kinds.LeftBracket (λ t. refl) t q h), token_not_mark kinds.LeftParen (λ t. refl) t q h)
+      inr (
+        inr (
+          inr (inr (inr (inr ((t, refl, h), token_not_meta t.kind t q refl h), token_not_free t.kind t q h), token_not_mark kinds.At (λ t. refl) t q h), token_not_mark kinds.LeftBrace (λ t. refl) t q h),
+          token_not_mark kinds.LeftBracket (λ t. refl) t q h,
+        ),
+        token_not_mark kinds.LeftParen (λ t. refl) t q h,
+      )
   head_from m _ _ (g.IsHead.name t h) = at_name m (e.Name (word t)) t [] (free_kind t h) (inl ((t, [], refl, h, inr ((refl, refl), refl)), h))
   head_from m _ _ (g.IsHead.metadata t h) = at_metadata m e.Metadata t [] h (inr ((refl, refl), refl))
   head_from m _ _ (g.IsHead.meta_key {x} t t' h h') = at_metadata m (e.Meta x) t (t' ∷ []) h (inl ((x, refl, (t', refl, h')), ap is_some h'))

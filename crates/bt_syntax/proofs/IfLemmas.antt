@@ -1,22 +1,22 @@
 -- Conditions and what stands in their braces are read rightly.
-use Rattle.std.proofs.Common.{◌≡◌, ℕ, zero, suc, Bool, true, false, List, [], ◌∷◌, ◌++◌, Option, Some, None, ◌⊎◌, inl, inr, refl, sym, ap, ◌∙◌, subst, append-nil, append_assoc}
+use Rattle.std.proofs.Common.{◌≡◌, ℕ, suc, List, [], ◌∷◌, ◌++◌, Option, inl, inr, refl, sym, ap, ◌∙◌, subst, append-nil}
 use Rattle.bt_lexer.specs.declared.token.Kind.TheVariants as kinds
 use Rattle.bt_syntax.specs.declared.keywords.Keyword.TheVariants as w
 use Rattle.bt_syntax.specs.declared.tree.Query.{Query}
 use Rattle.bt_syntax.specs.declared.tree.Query.TheVariants as e
 use Rattle.bt_syntax.specs.declared.tree.Branch.{Branch}
-use Rattle.bt_syntax.specs.Lexemes.{Lexeme, Lexemes, reserved}
+use Rattle.bt_syntax.specs.Lexemes.{Lexemes, reserved}
 use Rattle.bt_syntax.specs.Grammar as g
 use Rattle.bt_syntax.specs.Grammar.{IsReserved, IsPlain, IsBlock, IsBranch, AreElses, IsIf, Nested}
-use Rattle.bt_syntax.specs.Reading.{Reader, seq, mapped, branch, starts}
+use Rattle.bt_syntax.specs.Reading.{Reader}
 use Rattle.bt_syntax.specs.Readers as r
 use Rattle.bt_syntax.specs.Readers.{is_reserved, same_keyword, branch_of, Else, More, Last, has_more, branches_of, last_of, if_of}
-use Rattle.bt_syntax.proofs.Lawful.{Stops, Lawful, Seq, Image, nothing, stops_nothing, seq_lawful, map_lawful, same_lawful, wider_lawful}
+use Rattle.bt_syntax.proofs.Lawful.{Lawful, Seq, Image, nothing, stops_nothing, seq_lawful, map_lawful, same_lawful}
 use Rattle.bt_syntax.proofs.Branches.{Either, branch_lawful}
-use Rattle.bt_syntax.proofs.Many.{Begins, Turns, IfGoes, turns_lawful}
-use Rattle.bt_syntax.proofs.TokenLemmas.{word_is, no_word, sample, rank, below, ends_word}
+use Rattle.bt_syntax.proofs.Many.{Turns, turns_lawful}
+use Rattle.bt_syntax.proofs.TokenLemmas.{word_is, no_word, sample, below, ends_word}
 use Rattle.bt_syntax.proofs.Forms.{AfterWord, after_word_lawful, bracketed_lawful}
-use Rattle.bt_syntax.specs.Rules.{Bracketed, bracketed}
+use Rattle.bt_syntax.specs.Rules.{bracketed}
 use Rattle.bt_syntax.proofs.FirstTokens.{bracketed_begins}
 use Rattle.bt_syntax.proofs.LogicLemmas.{plain_lawful}
 use Rattle.bt_syntax.proofs.MatchLemmas.{stops_bracket}

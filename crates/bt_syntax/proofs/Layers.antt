@@ -88,4 +88,3 @@ out-Match x xs = search (rules, the_lemmas)
 
 pub out-If : (xs : List (Branch Query)) (x : Option Query) → out-Query (e.If xs x) ≡ Query-F.If xs x
 out-If xs x = search (rules, the_lemmas)
-

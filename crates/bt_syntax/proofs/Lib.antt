@@ -20,3 +20,4 @@ pub mod BeginLemmas
 pub mod DraftLemmas
 pub mod WholeLists
 pub mod MappingLemmas
+pub mod FirstBadLemmas

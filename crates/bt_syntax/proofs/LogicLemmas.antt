@@ -1,5 +1,5 @@
 -- Chains of `&&`, of `||` and of `|` are read rightly.
-use Rattle.std.proofs.Common.{◌≡◌, ℕ, zero, suc, Bool, true, false, List, [], ◌∷◌, ◌++◌, Option, Some, None, ◌⊎◌, inl, inr, refl, sym, ap, ◌∙◌, subst, append-nil, append_assoc, lit≤, pos}
+use Rattle.std.proofs.Common.{◌≡◌, ℕ, suc, Bool, true, false, List, [], ◌∷◌, ◌++◌, Option, Some, None, refl, sym, ap, ◌∙◌, subst, append-nil, append_assoc, lit≤, pos}
 use Rattle.bt_lexer.specs.declared.token.Kind.{Kind}
 use Rattle.bt_lexer.specs.declared.token.Kind.TheVariants as kinds
 use Rattle.bt_syntax.specs.declared.keywords.Keyword.{Keyword}
@@ -8,10 +8,10 @@ use Rattle.bt_syntax.specs.declared.tree.Query.{Query, out-Query}
 use Rattle.bt_syntax.specs.declared.tree.Query.TheOpen.{Query-F}
 use Rattle.bt_syntax.specs.declared.tree.Query.TheVariants as e
 use Rattle.bt_syntax.specs.Lexemes.{Lexeme, Lexemes, reserved, number}
-use Rattle.bt_syntax.specs.Rules.{Repeated, none, more, Behind, behind}
+use Rattle.bt_syntax.specs.Rules.{Repeated, none, Behind}
 use Rattle.bt_syntax.specs.Grammar as g
 use Rattle.bt_syntax.specs.Grammar.{word, head_in, reserved_head, IsHead, IsItem, IsUnary, IsProduct, IsSum, IsComparison, IsLogic, IsPlain, Nested}
-use Rattle.bt_syntax.specs.Reading.{Reader, seq, mapped, pure}
+use Rattle.bt_syntax.specs.Reading.{Reader, seq}
 use Rattle.bt_syntax.specs.Readers as r
 use Rattle.bt_syntax.specs.Readers.{is, or_of, coalesce_of, and_or, coalesce_if, is_unary, unary_layer}
 use Rattle.bt_syntax.proofs.Lawful.{Stops, stops_wider, Lawful, Seq, Nil, Image, seq_lawful, map_lawful, same_lawful, pure_lawful}

@@ -1,5 +1,5 @@
 -- Matches are read rightly.
-use Rattle.std.proofs.Common.{◌≡◌, ℕ, zero, suc, Bool, true, false, not, ◌||◌, List, [], ◌∷◌, ◌++◌, Option, Some, None, ◌⊎◌, inl, inr, refl, sym, ap, ◌∙◌, subst, append-nil, nat_lt}
+use Rattle.std.proofs.Common.{◌≡◌, ℕ, suc, Bool, true, false, not, ◌||◌, List, [], ◌∷◌, ◌++◌, Option, Some, None, inl, inr, refl, sym, ap, ◌∙◌, subst, nat_lt}
 use Rattle.bt_lexer.specs.declared.token.Kind.{Kind}
 use Rattle.bt_lexer.specs.declared.token.Kind.TheVariants as kinds
 use Rattle.bt_syntax.specs.declared.keywords.Keyword.TheVariants as w
@@ -7,17 +7,17 @@ use Rattle.bt_syntax.specs.declared.tree.Query.{Query}
 use Rattle.bt_syntax.specs.declared.tree.Query.TheVariants as e
 use Rattle.bt_syntax.specs.declared.tree.Case.{Case}
 use Rattle.bt_syntax.specs.declared.tree.Case.TheVariants as case
-use Rattle.bt_syntax.specs.Lexemes.{Lexeme, Lexemes, reserved}
+use Rattle.bt_syntax.specs.Lexemes.{Lexeme, Lexemes}
 use Rattle.bt_syntax.specs.Rules.{Separated, Behind, behind, Bracketed, Optional, absent, present}
 use Rattle.bt_syntax.specs.Grammar as g
 use Rattle.bt_syntax.specs.Grammar.{separates_cases, begins, IsReserved, IsPlain, IsCase, IsSubject, IsMatch, Nested}
-use Rattle.bt_syntax.specs.Reading.{Reader, seq, mapped, pure, branch, starts}
+use Rattle.bt_syntax.specs.Reading.{Reader, seq, mapped, starts}
 use Rattle.bt_syntax.specs.Readers as r
 use Rattle.bt_syntax.specs.Readers.{is, is_not, is_reserved}
-use Rattle.bt_syntax.proofs.Lawful.{Stops, stops_wider, Lawful, Seq, Nil, Image, nothing, seq_lawful, map_lawful, same_lawful, wider_lawful, pure_lawful}
+use Rattle.bt_syntax.proofs.Lawful.{Stops, Lawful, Seq, Nil, Image, nothing, seq_lawful, map_lawful, same_lawful, pure_lawful}
 use Rattle.bt_syntax.proofs.Branches.{Either, branch_lawful}
 use Rattle.bt_syntax.proofs.Many.{Begins, begins_some}
-use Rattle.bt_syntax.proofs.TokenLemmas.{is_kind, kind_is, word_is, word_kind, sample, sample_word, sample_reserved, rank, below, Flat}
+use Rattle.bt_syntax.proofs.TokenLemmas.{is_kind, kind_is, word_is, sample, sample_word, sample_reserved, rank, below, Flat}
 use Rattle.bt_syntax.proofs.Forms.{AfterWord, after_word_lawful, behind_lawful, bracketed_lawful}
 use Rattle.bt_syntax.proofs.Lists.{or_false, separated_lawful}
 use Rattle.bt_syntax.proofs.FirstTokens.{query_first, nested_begins, query_not_word, plain_first, plain_begins, bracketed_begins}

@@ -1,5 +1,5 @@
 -- Operators and their operands are read rightly.
-use Rattle.std.proofs.Common.{◌≡◌, ℕ, zero, suc, ◌+◌, Bool, true, false, not, List, [], ◌∷◌, ◌++◌, Option, Some, None, is_some, ◌⊎◌, inl, inr, refl, sym, ap, ◌∙◌, subst, append-nil, append_assoc, lit≤}
+use Rattle.std.proofs.Common.{◌≡◌, ℕ, suc, ◌+◌, true, false, [], ◌∷◌, ◌++◌, Option, Some, is_some, inl, inr, refl, sym, ap, ◌∙◌, append-nil, lit≤}
 use Rattle.bt_lexer.specs.declared.token.Kind.{Kind}
 use Rattle.bt_lexer.specs.declared.token.Kind.TheVariants as kinds
 use Rattle.bt_value.specs.declared.names.Op.{Op}
@@ -8,23 +8,22 @@ use Rattle.bt_value.specs.declared.names.PrefixOp.{PrefixOp}
 use Rattle.bt_value.specs.declared.names.PrefixOp.TheVariants as po
 use Rattle.bt_syntax.specs.declared.keywords.Keyword.{Keyword}
 use Rattle.bt_syntax.specs.declared.keywords.Keyword.TheVariants as w
-use Rattle.bt_syntax.specs.declared.tree.Query.{Query, out-Query}
-use Rattle.bt_syntax.specs.declared.tree.Query.TheOpen.{Query-F}
+use Rattle.bt_syntax.specs.declared.tree.Query.{Query}
 use Rattle.bt_syntax.specs.declared.tree.Query.TheVariants as e
 use Rattle.bt_syntax.specs.declared.tree.Term.{Term}
-use Rattle.bt_syntax.specs.Lexemes.{Lexeme, Lexemes, reserved}
-use Rattle.bt_syntax.specs.Rules.{Repeated, none, more, Behind, behind}
+use Rattle.bt_syntax.specs.Lexemes.{Lexemes, reserved}
+use Rattle.bt_syntax.specs.Rules.{none}
 use Rattle.bt_syntax.specs.Grammar as g
 use Rattle.bt_syntax.specs.Grammar.{prefix_op, product_op, sum_op, comparison_op, IsItem, IsUnary, IsFactor, IsProduct, IsTerm, IsSum, IsComparison, IsLogic, IsPlain, Nested}
-use Rattle.bt_syntax.specs.Reading.{Reader, seq, mapped, pure, token, branch, starts}
+use Rattle.bt_syntax.specs.Reading.{Reader, pure, branch}
 use Rattle.bt_syntax.specs.Readers as r
 use Rattle.bt_syntax.specs.Readers.{is, is_prefix, is_product, is_sum, is_comparison, term_of, product_of, sum_of, or_of, coalesce_of, and_or, coalesce_if, is_unary, unary_layer}
-use Rattle.bt_syntax.proofs.Lawful.{Stops, stops_wider, Lawful, Seq, Nil, Image, seq_lawful, map_lawful, same_lawful, wider_lawful, pure_lawful}
-use Rattle.bt_syntax.proofs.Branches.{Either, either_some, branch_lawful}
+use Rattle.bt_syntax.proofs.Lawful.{Stops, stops_wider, Lawful, Seq, Nil, Image, seq_lawful, map_lawful, same_lawful, pure_lawful}
+use Rattle.bt_syntax.proofs.Branches.{Either, branch_lawful}
 use Rattle.bt_syntax.proofs.Many.{Begins, begins_some}
-use Rattle.bt_syntax.proofs.TokenLemmas.{is_kind, kind_is, sample, sample_word, rank, below, below_wider, ends_mark, ends_test, over_rank, Flat}
-use Rattle.bt_syntax.proofs.Forms.{AfterAs, after_as_lawful, behind_lawful, behind_begins, Chain, chain_lawful, repeated_lawful, repeated_follows, repeated_none}
-use Rattle.bt_syntax.proofs.FirstTokens.{head_first, head_first_in, item_begins, unary_begins, plain_first, begins_wider}
+use Rattle.bt_syntax.proofs.TokenLemmas.{sample, sample_word, rank, below, below_wider, ends_test, over_rank, Flat}
+use Rattle.bt_syntax.proofs.Forms.{AfterAs, after_as_lawful, Chain, chain_lawful, repeated_none}
+use Rattle.bt_syntax.proofs.FirstTokens.{head_first, head_first_in, item_begins}
 use Rattle.bt_syntax.proofs.SuffixLemmas.{item_lawful}
 
 -- ---- the operators' tokens

@@ -1,5 +1,5 @@
 -- Statements are read rightly.
-use Rattle.std.proofs.Common.{◌≡◌, ℕ, zero, suc, ◌+◌, Bool, true, false, not, ◌||◌, List, [], ◌∷◌, ◌++◌, Option, Some, None, ◌⊎◌, inl, inr, refl, sym, ap, ◌∙◌, subst, lit≤, nat_lt}
+use Rattle.std.proofs.Common.{◌≡◌, ℕ, suc, Bool, true, false, ◌||◌, List, [], ◌∷◌, ◌++◌, Option, Some, inl, inr, refl, sym, ap, ◌∙◌, nat_lt}
 use Rattle.bt_lexer.specs.declared.token.Kind.{Kind}
 use Rattle.bt_lexer.specs.declared.token.Kind.TheVariants as kinds
 use Rattle.bt_syntax.specs.declared.keywords.Keyword.{Keyword}
@@ -11,17 +11,16 @@ use Rattle.bt_syntax.specs.declared.tree.MapStmt.{MapStmt}
 use Rattle.bt_syntax.specs.declared.tree.MapStmt.TheVariants as ms
 use Rattle.bt_syntax.specs.declared.tree.Stmt.{Stmt}
 use Rattle.bt_syntax.specs.declared.tree.Stmt.TheVariants as st
-use Rattle.bt_syntax.specs.Lexemes.{Lexeme, Lexemes, reserved}
+use Rattle.bt_syntax.specs.Lexemes.{Lexeme, Lexemes}
 use Rattle.bt_syntax.specs.Rules.{Repeated, Separated, Behind, Bracketed, Optional}
 use Rattle.bt_syntax.specs.Grammar as g
 use Rattle.bt_syntax.specs.Grammar.{separates_statements, IsReserved, IsKey, AreKeys, IsQuery, IsMapStmt, IsStmt, Nested}
-use Rattle.bt_syntax.specs.Reading.{Reader, seq, mapped, branch, starts}
+use Rattle.bt_syntax.specs.Reading.{Reader, branch, starts}
 use Rattle.bt_syntax.specs.Readers as r
 use Rattle.bt_syntax.specs.Readers.{is, is_key, is_reserved, same_keyword}
-use Rattle.bt_syntax.proofs.Lawful.{Stops, stops_wider, Lawful, Seq, Image, nothing, stops_nothing, seq_lawful, map_lawful, same_lawful, wider_lawful}
+use Rattle.bt_syntax.proofs.Lawful.{Stops, Lawful, Seq, Image, nothing, seq_lawful, map_lawful, same_lawful}
 use Rattle.bt_syntax.proofs.Branches.{Either, either_some, branch_lawful}
-use Rattle.bt_syntax.proofs.Many.{Begins, begins_some}
-use Rattle.bt_syntax.proofs.TokenLemmas.{is_kind, word_is, sample, sample_word, sample_reserved, rank, below, below_wider, ends_mark, ends_key, over_rank, Flat}
+use Rattle.bt_syntax.proofs.TokenLemmas.{is_kind, word_is, rank, below, ends_mark, ends_key, over_rank, Flat}
 use Rattle.bt_syntax.proofs.Forms.{AfterMark, AfterWord, after_mark_lawful, after_word_lawful, behind_lawful, behind_begins, bracketed_lawful, repeated_lawful}
 use Rattle.bt_syntax.proofs.Lists.{or_false, separated_lawful, optional_lawful}
 use Rattle.bt_syntax.proofs.HeadLemmas.{key_lawful, key_begins}

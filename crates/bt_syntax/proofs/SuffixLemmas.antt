@@ -1,18 +1,17 @@
 -- Suffixes and items are read rightly.
-use Rattle.std.proofs.Common.{◌≡◌, ℕ, zero, suc, ◌+◌, Bool, true, false, not, List, [], ◌∷◌, ◌++◌, Option, Some, None, is_some, ◌⊎◌, inl, inr, refl, sym, ap, ◌∙◌, subst, append-nil, lit≤}
+use Rattle.std.proofs.Common.{◌≡◌, ℕ, suc, ◌+◌, Bool, true, false, List, [], ◌∷◌, Some, None, inl, inr, refl, sym, ap, ◌∙◌, append-nil, lit≤}
 use Rattle.bt_lexer.specs.declared.token.Kind.{Kind}
 use Rattle.bt_lexer.specs.declared.token.Kind.TheVariants as kinds
-use Rattle.bt_syntax.specs.declared.keywords.Keyword.TheVariants as w
 use Rattle.bt_syntax.specs.declared.tree.Query.{Query}
 use Rattle.bt_syntax.specs.declared.tree.Query.TheVariants as e
 use Rattle.bt_syntax.specs.declared.tree.Arg.{Arg}
 use Rattle.bt_syntax.specs.declared.tree.Suffix.{Suffix}
 use Rattle.bt_syntax.specs.declared.tree.Suffix.TheVariants as s
 use Rattle.bt_syntax.specs.Lexemes.{Lexeme, Lexemes, reserved}
-use Rattle.bt_syntax.specs.Rules.{Repeated, none, more, Listed, Behind, behind, Bracketed}
+use Rattle.bt_syntax.specs.Rules.{none, Listed, Behind, behind, Bracketed}
 use Rattle.bt_syntax.specs.Grammar as g
 use Rattle.bt_syntax.specs.Grammar.{is_free, segment_of, segment_in, word, IsArg, AreArgs, IsHead, IsSuffix, IsItem, Nested}
-use Rattle.bt_syntax.specs.Reading.{Reader, seq, mapped, pure, token, branch, starts}
+use Rattle.bt_syntax.specs.Reading.{Reader, token, branch}
 use Rattle.bt_syntax.specs.Readers as r
 use Rattle.bt_syntax.specs.Readers.{is, item_of}
 use Rattle.bt_syntax.proofs.Lawful.{Lawful, One, Nil, Image, map_lawful, same_lawful, wider_lawful, token_lawful, pure_lawful}

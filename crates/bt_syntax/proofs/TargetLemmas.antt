@@ -1,5 +1,5 @@
 -- A first statement begins as a query does: `root` and keys.
-use Rattle.std.proofs.Common.{◌≡◌, ℕ, zero, suc, Bool, true, false, List, [], ◌∷◌, ◌++◌, Option, Some, None, ◌⊎◌, inl, inr, refl, sym, ap, ◌∙◌, subst, pos}
+use Rattle.std.proofs.Common.{◌≡◌, ℕ, List, [], ◌∷◌, ◌++◌, Option, Some, None, refl, sym, ap, ◌∙◌, subst, pos}
 use Rattle.bt_lexer.specs.declared.token.Kind.{Kind}
 use Rattle.bt_lexer.specs.declared.token.Kind.TheVariants as kinds
 use Rattle.bt_syntax.specs.declared.keywords.Keyword.{Keyword}
@@ -15,7 +15,6 @@ use Rattle.bt_syntax.specs.Lexemes.{Lexeme, Lexemes, reserved, number}
 use Rattle.bt_syntax.specs.Rules.{Repeated, none, more, Behind, behind}
 use Rattle.bt_syntax.specs.Grammar as g
 use Rattle.bt_syntax.specs.Grammar.{IsReserved, word, key_of, key_in, segment_of, segment_in, head_in, token_head, reserved_head, IsKey, AreKeys, IsHead, IsSuffix, IsItem, IsUnary, IsProduct, IsSum, IsComparison, IsLogic, IsPlain, IsMatch, IsIf, IsQuery}
-use Rattle.bt_syntax.specs.Readers as r
 use Rattle.bt_syntax.specs.Readers.{root_in, root_of, target_keys, key_and, target_from, target_in, target_of}
 use Rattle.bt_syntax.proofs.TokenLemmas.{word_kind}
 use Rattle.bt_syntax.proofs.Layers.{out-Null, out-True, out-False, out-Int, out-Quoted, out-This, out-Root, out-Name, out-Var, out-Metadata, out-Meta, out-Call, out-Paren, out-List, out-Object, out-Item, out-Prefix, out-Product, out-Sum, out-Compare, out-And, out-Or, out-Coalesce, out-Match, out-If}
@@ -241,9 +240,11 @@ module _ (I : Query → Lexemes → Type 0) where
   root_query : (t : Lexeme) (xs : List Key) (ys : List (Suffix Query)) (v : Lexemes) → IsReserved w.Root t → Repeated (Suffix Query) (IsSuffix I) ys v → target_keys ys ≡ Some xs →
       (q : Query) × IsQuery I q (t ∷ v) × (target_of q ≡ Some (t.at, xs))
   root_query t xs _ _ h none e = (let e' : [] ≡ xs = cc in (node.Root t.at, item_query _ _ (g.head_alone (root_head t h)), ap target_in (out-Root t.at) ∙ ap (λ y. Some (t.at, y)) e'))
-  root_query t xs _ _ h (more {a = x} {rest} {u} {v} s m) e =
-      (node.Item (node.Root t.at) (x ∷ rest), item_query _ _ (g.suffixed (root_head t h) (more s m)),
-        ap target_in (out-Item (node.Root t.at) (x ∷ rest)) ∙ ap (λ y. target_from y (target_keys (x ∷ rest))) (ap root_in (out-Root t.at)) ∙ ap (target_from (Some t.at)) e)
+  root_query t xs _ _ h (more {a = x} {rest} {u} {v} s m) e = (
+    node.Item (node.Root t.at) (x ∷ rest),
+    item_query _ _ (g.suffixed (root_head t h) (more s m)),
+    ap target_in (out-Item (node.Root t.at) (x ∷ rest)) ∙ ap (λ y. target_from y (target_keys (x ∷ rest))) (ap root_in (out-Root t.at)) ∙ ap (target_from (Some t.at)) e,
+  )
 
   pub target_query : (t : Lexeme) (xs : List Key) (v : Lexemes) → IsReserved w.Root t → Repeated Key (Behind kinds.Dot Key IsKey) xs v → (q : Query) × IsQuery I q (t ∷ v) × (target_of q ≡ Some (t.at, xs))
   target_query t xs v h s = (let (ys, m, e) = keys_suffixes xs v s in root_query t xs ys v h m e)

@@ -6,8 +6,10 @@
 
 pub mod fault;
 pub mod keywords;
+pub mod laws;
 pub mod tree;
 
 pub use fault::SyntaxFault;
 pub use keywords::{Keyword, keyword_of};
+pub use laws::one_reading;
 pub use tree::{Arg, Branch, Case, Key, MapStmt, Mapping, Member, Query, Stmt, Suffix, Term, Word};
