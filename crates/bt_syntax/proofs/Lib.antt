@@ -21,3 +21,4 @@ pub mod DraftLemmas
 pub mod WholeLists
 pub mod MappingLemmas
 pub mod FirstBadLemmas
+pub mod Examples

@@ -6,3 +6,4 @@ pub mod Rules
 pub mod Grammar
 pub mod Reading
 pub mod Readers
+pub mod Same
