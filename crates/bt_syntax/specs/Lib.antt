@@ -1,0 +1,9 @@
+pub mod Keywords
+pub mod Lexemes
+pub mod Brackets
+pub mod Places
+pub mod Rules
+pub mod Grammar
+pub mod Reading
+pub mod Readers
+pub mod Same
