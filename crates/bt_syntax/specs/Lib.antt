@@ -1,3 +1,5 @@
+pub mod Built
+pub mod BuiltTokens
 pub mod Keywords
 pub mod Lexemes
 pub mod Brackets
@@ -6,4 +8,6 @@ pub mod Rules
 pub mod Grammar
 pub mod Reading
 pub mod Readers
+pub mod Code
+pub mod Cursor
 pub mod Same

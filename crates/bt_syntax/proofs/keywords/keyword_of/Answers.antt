@@ -1,5 +1,5 @@
 use Rattle.bt_syntax.specs.Keywords.{keywords}
-use Rattle.bt_value.proofs.Named.{missed}
+use Rattle.bt_syntax.proofs.Tables.{missed}
 use Rattle.bt_syntax.proofs.keywords.keyword_of.Goals as goal
 
 pub returns-in_default : goal.returns-in_default
