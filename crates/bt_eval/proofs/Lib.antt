@@ -1,0 +1,2 @@
+pub mod ThisLemmas
+pub mod PathLemmas
