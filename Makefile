@@ -1,11 +1,15 @@
 # make run     carries examples/copy/input through the pipeline of examples/copy/config.json, without proving anything
+# make blobl   maps each line of examples/blobl/input by the mapping of examples/blobl/mapping, without proving anything
 # make test    the gate, which proves every crate, tries its wrong edits and runs its tests; then the built program's own test
 # make build   proves and builds the program: crates/benthos/out/benthos
 
-.PHONY: run test build
+.PHONY: run blobl test build
 
 run:
 	cd crates/benthos && rt try --data config.json=../../examples/copy/config.json -- run -c config.json < ../../examples/copy/input
+
+blobl:
+	cd crates/benthos && rt try -- blobl "$$(cat ../../examples/blobl/mapping)" < ../../examples/blobl/input
 
 test:
 	.ci/run && tests/program.sh

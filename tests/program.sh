@@ -29,6 +29,10 @@ run() { "$program" run -c "$1" < "$work/input"; }
 closed_output() { "$program" run -c "$work/c.json" < "$work/input" >&-; }
 full_output() { "$program" run -c "$work/c.json" < "$work/input" > /dev/full; }
 no_text() { "$program" run -c "$(printf '\377')" < "$work/input"; }
+blobl() { printf '{"a":{"b":7}}\n{"a":1}\n' | "$program" blobl "$1"; }
+full_blobl() { printf '{}\n' | "$program" blobl 'root = 1' > /dev/full; }
+closed_blobl() { printf '{}\n' | "$program" blobl 'root = 1' >&-; }
+directory_blobl() { "$program" blobl 'root = 1' < "$work"; }
 directory_input() { "$program" run -c "$work/c.json" < "$work"; }
 
 case_of "lines are carried" 0 "taken 3 acknowledged 3 refused 0" run "$work/c.json"
@@ -41,6 +45,13 @@ if [ "$(id -u)" -ne 0 ]; then
 fi
 case_of "a closed standard output" 1 "taken 3 acknowledged 0 refused 3" closed_output
 case_of "a full standard output" 1 "taken 3 acknowledged 0 refused 3" full_output
+case_of "lines are mapped" 0 "" blobl 'root = this.a.b'
+printf '7\nnull\n' | cmp -s - "$work/out" || { echo "FAILED the lines that were mapped"; failed=1; }
+case_of "a mapping with a fault" 3 "mapping: syntax at line 1 column 14" blobl 'root = a | b + c'
+case_of "a mapping that doesn't run yet" 3 "mapping: not built" blobl 'root = (this)'
+case_of "a full standard output of blobl" 5 "out: write fault" full_blobl
+case_of "a closed standard output of blobl" 5 "out: write fault" closed_blobl
+case_of "a directory as standard input of blobl" 4 "source: read fault" directory_blobl
 case_of "a word that is no text" 2 "usage: benthos run, lint, test, blobl or load" no_text
 case_of "a directory as standard input" 4 "source: read fault" directory_input
 case_of "no words" 2 "usage: benthos run, lint, test, blobl or load" "$program"

@@ -11,7 +11,7 @@ use bt_ports::sequence::Sequence;
 use bt_ports::text::Text;
 use bt_top::command::benthos;
 use bt_top::status::Status;
-use std::alloc::Global;
+use std::alloc::{AllocError, Global};
 
 /// A case, by the fields of its line. A field that is missing is empty, and a number that can't be read is 0.
 #[derive(Clone, Copy)]
@@ -24,6 +24,7 @@ pub struct Case<'a> {
     read: u64,
     put: u64,
     answer: u64,
+    print: u64,
 }
 
 fn number(field: &str) -> u64 {
@@ -39,6 +40,18 @@ fn call(alloc: Global, number: u64) -> Result<Calls, NoMemory> {
     Ok(calls)
 }
 
+// The word, with a line feed in place of each caret.
+fn word_of(alloc: Global, word: &str) -> Result<String, AllocError> {
+    let mut text = String::new(alloc);
+    for (i, line) in word.split('^').enumerate() {
+        if i > 0 {
+            text.push('\n')?;
+        }
+        text.push_str(line)?;
+    }
+    Ok(text)
+}
+
 impl<'a> Case<'a> {
     /// The case that the line has.
     pub fn read(line: &'a str) -> Case<'a> {
@@ -52,6 +65,7 @@ impl<'a> Case<'a> {
             read: number(fields.next().unwrap_or("")),
             put: number(fields.next().unwrap_or("")),
             answer: number(fields.next().unwrap_or("")),
+            print: number(fields.next().unwrap_or("")),
         }
     }
 
@@ -82,7 +96,7 @@ impl<'a> Case<'a> {
             files: Sequence::new(alloc),
             sinks,
             answers: call(alloc, self.answer)?,
-            prints: Sequence::new(alloc),
+            prints: call(alloc, self.print)?,
         })
     }
 
@@ -104,8 +118,8 @@ impl<'a> Case<'a> {
     /// Does what the words ask over the world of the case.
     pub fn run(&self, alloc: Global) -> Result<(Status, MemWorld), NoMemory> {
         let mut words = Vec::new(alloc);
-        for word in self.words.split(' ') {
-            let word = String::from_str(alloc, word).map_err(|_| NoMemory)?;
+        for word in self.words.split('~') {
+            let word = word_of(alloc, word).map_err(|_| NoMemory)?;
             words.push(word).map_err(|_| NoMemory)?;
         }
         let mut world = self.world(alloc)?;

@@ -1,10 +1,11 @@
 //! Runs cases over a world in memory, and prints what stands after each.
 //!
-//! A case is a line of the standard input, of eight fields with a semicolon between: its name; the words of the command
-//! line; the file `c.json`; the input, in which a bar stands for a line feed; and the numbers, counted from 1, of the
-//! opening, the read, the put and the answer that fail, 0 for none. What stands after it is its status, the accepted
-//! records (`+`, transaction, part, leaf, batch, bytes), the refused records (`-`), the answers (`=`), and the lines of
-//! `err`.
+//! A case is a line of the standard input, of nine fields with a semicolon between: its name; the words of the command
+//! line, with a tilde between and a caret for a line feed; the file `c.json`; the input, in which a bar stands for a line
+//! feed; and the numbers, counted from 1, of the opening, the read, the put, the answer and the print that fail, 0 for
+//! none. What stands after it is its status, the accepted records (`+`, transaction, part, leaf, batch, bytes), the
+//! refused records (`-`), the answers (`=`), the printed lines (`>`), how many sources were kept as input, and the lines
+//! of `err`.
 #![tactic(auto)]
 
 mod case;

@@ -34,7 +34,19 @@ fn push_answer(all: &mut String, answer: &AnswerCall) -> Result<(), AllocError> 
     all.push_str(if answer.failed { ", failed\n" } else { "\n" })
 }
 
-/// The accepted records, the refused ones, the answers and the lines of `err`, a line each.
+// The printed lines, a line each, and whether the last one has no line break.
+fn push_printed(all: &mut String, printed: &str) -> Result<(), AllocError> {
+    for line in printed.lines() {
+        writeln!(all, "  > {line}")?;
+    }
+    if !printed.is_empty() && !printed.ends_with('\n') {
+        all.push_str("  (without a line break)\n")?;
+    }
+    Ok(())
+}
+
+/// The accepted records, the refused ones, the answers, what was printed, how many sources were kept as input, and the
+/// lines of `err`, a line each.
 pub fn told(alloc: Global, world: &MemWorld) -> Result<String, AllocError> {
     let mut all = String::new(alloc);
     if let Some(ends) = world.kept() {
@@ -49,6 +61,10 @@ pub fn told(alloc: Global, world: &MemWorld) -> Result<String, AllocError> {
         for answer in ends.answerer.answers().as_slice() {
             push_answer(&mut all, answer)?;
         }
+    }
+    push_printed(&mut all, text(world.bytes().as_slice()))?;
+    if let Some(sources) = world.kept_input() {
+        writeln!(&mut all, "  kept {}", sources.len())?;
     }
     for line in world.lines().as_slice() {
         writeln!(all, "  {}", text(line.as_slice()))?;

@@ -1,4 +1,9 @@
 pub mod Begin
+pub mod BloblFaults
+pub mod BloblLoop
+pub mod BloblTales
+pub mod BloblTurns
+pub mod BloblWhole
 pub mod Carried
 pub mod Carrying
 pub mod Went

@@ -9,3 +9,7 @@ pub mod Run
 pub mod Statuses
 pub mod Words
 pub mod Went
+pub mod Blobl
+pub mod BloblLines
+pub mod BloblText
+pub mod BloblRun

@@ -1,6 +1,7 @@
 //! The commands of the program.
 #![tactic(auto)]
 
+pub mod blobl;
 mod carry;
 pub mod command;
 pub mod course;

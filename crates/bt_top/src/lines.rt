@@ -1,9 +1,12 @@
 //! The lines of the report and of the bound, put together without taking memory.
 ghost use Rattle.std.specs.Prelude.{◌≡◌, ◌+◌, ◌++◌, ◌≤◌, length, decimal};
 ghost use Rattle.bt_top.specs.Lines.{taken_line, releases_line, bound_line, long_line};
+ghost use Rattle.bt_top.specs.BloblText as mapping;
 
+use crate::blobl::course::MappingFault;
 use arrayvec::ArrayString;
 use bt_desk::report::Report;
+use bt_lexer::Place;
 use itoa::Buffer;
 
 /// Room for the longest of these lines: its words, and seven numbers of 20 digits.
@@ -77,5 +80,33 @@ pub(crate) fn long_line(n: u64) -> Line
     line.push_str("line ");
     push_number(&mut line, n);
     line.push_str(": longer than 65536 bytes");
+    line
+}
+
+// What is said of a mapping's fault.
+fn fault_text(fault: MappingFault) -> &'static str
+    ensures text { result.now ≡ mapping.fault_text fault }
+    ensures short { length result.now ≤ 9 }
+{
+    match fault {
+        MappingFault::Character => "character",
+        MappingFault::Text => "text",
+        MappingFault::Number => "number",
+        MappingFault::Syntax => "syntax",
+        MappingFault::TooDeep => "too deep",
+    }
+}
+
+/// `mapping: TEXT at line L column C`.
+pub(crate) fn fault_line(fault: MappingFault, place: &Place) -> Line
+    ensures { result.bytes ≡ mapping.fault_line fault place.now.line place.now.column }
+{
+    let mut line = Line::new();
+    line.push_str("mapping: ");
+    line.push_str(fault_text(fault));
+    line.push_str(" at line ");
+    push_number(&mut line, place.line);
+    line.push_str(" column ");
+    push_number(&mut line, place.column);
     line
 }

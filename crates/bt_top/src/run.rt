@@ -27,8 +27,8 @@ use bt_ports::sequence::Sequence;
 use bt_ports::world::World;
 use std::alloc::Global;
 
-// A list of one.
-fn just<T: Drop>(alloc: Global, x: T) -> Result<Sequence<T>, NoMemory>
+/// A list of one.
+pub(crate) fn just<T: Drop>(alloc: Global, x: T) -> Result<Sequence<T>, NoMemory>
     ensures { IfOk result (λ xs. xs.list ≡ x ∷ []) }
 {
     let mut xs = Sequence::new(alloc);

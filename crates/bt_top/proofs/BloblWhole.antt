@@ -1,0 +1,272 @@
+-- `blobl` as a whole.
+use Rattle.std.proofs.Common.{◌≡◌, ℕ, ◌+◌, ◌≤◌, List, [], ◌∷◌, ◌++◌, take, length, map, refl, ap, sym, subst, ◌∙◌, arith, IsTrue, Bool, true, false, Option, Some, None, slice_get, append-nil, add-zero}
+use Rattle.std.proofs.lemmas.List.{take_all, length-map}
+use Rattle.std.specs.List.{list_all}
+use Rattle.bt_ports.specs.Contents.{Contents}
+use Rattle.bt_ports.specs.World.{Tale, once_more}
+use Rattle.bt_ports.specs.declared.outside.Source as Source
+use Rattle.bt_ports.specs.declared.parts.Named.{Named}
+use Rattle.bt_ports.specs.declared.parts.Next.{Next}
+use Rattle.bt_ports.specs.declared.parts.Next.TheVariants as next
+use Rattle.bt_intake.specs.Answers.{Standing, StopSays}
+use Rattle.bt_intake.specs.Lines.{batches, stop, SourceBytes}
+use Rattle.bt_intake.specs.Sources.{all_tell, told, taken_count, fault_count, SourceKept, SourcesKept}
+use Rattle.bt_intake.specs.View.{LineView}
+use Rattle.bt_syntax.specs.Built.{BuiltReading}
+use Rattle.bt_syntax.specs.declared.tree.Mapping.{Mapping}
+use Rattle.bt_top.specs.Blobl.{outcome, blobl_text, blobl_errors, lines_of, line_bytes}
+use Rattle.bt_top.specs.BloblLines.{AnswerIs, Gave, Passed, PrintsOnly, all_lines}
+use Rattle.bt_top.proofs.BloblLoop.{joined}
+use Rattle.bt_top.specs.BloblRun.{BloblCounts, BloblWent, IsBloblPart, IsFreshInput, IsNoOpening, IsUnread, MapsBy, MapsLines, MapsNone, OpensInput, OpensNone, StopsSo}
+use Rattle.bt_top.specs.Input.{input_bound, input_of, transactions}
+use Rattle.bt_top.specs.Openings.{source_opening}
+use Rattle.bt_top.specs.declared.blobl.course.BloblCourse.{BloblCourse}
+use Rattle.bt_top.specs.declared.blobl.course.BloblCourse.TheVariants as course
+use Rattle.bt_top.specs.declared.blobl.course.Pass.{Pass}
+use Rattle.bt_top.specs.declared.blobl.course.Stop.{Stop}
+use Rattle.bt_top.specs.declared.blobl.course.Stop.TheVariants as stops
+
+-- what became of one source
+one-kept : {S : Type 0} (gs : Source.Ghosts S) (ns ms : List (Named S)) (s : S) → ns ≡ record { path = None; source = s } ∷ [] → SourcesKept gs ns ms
+    → (r : S) × (ms ≡ record { path = None; source = r } ∷ []) × SourceKept gs (record { path = None; source = s }) (record { path = None; source = r })
+one-kept {S = S} gs ns [] s is kept = absurd (subst (λ (xs : List (Named S)). SourcesKept gs xs []) is kept)
+one-kept {S = S} gs ns (m ∷ []) s is kept =
+    let here : SourcesKept gs (record { path = None; source = s } ∷ []) (m ∷ []) = subst (λ (xs : List (Named S)). SourcesKept gs xs (m ∷ [])) is kept in
+    let named : m ≡ record { path = None; source = m.source } = ap (λ (p : Option (List ℕ)). record { path = p; source = m.source }) here.0.path in
+    (m.source, ap (λ (n : Named S). n ∷ []) named, subst (λ (n : Named S). SourceKept gs (record { path = None; source = s }) n) named here.0)
+one-kept {S = S} gs ns (m ∷ l ∷ ms) s is kept = absurd (subst (λ (xs : List (Named S)). SourcesKept gs xs (m ∷ l ∷ ms)) is kept).1
+
+and-true : (b : Bool) → list_all (λ (c : Bool). c) (b ∷ []) ≡ b
+and-true true = refl
+and-true false = refl
+
+-- why no more lines were mapped
+stops-so : (s : Stop) (answer : Option Next) (done : List (List ℕ)) (line : List ℕ) (given faults taken : ℕ) (bytes : List ℕ)
+    → AnswerIs s answer → StopSays answer input_bound taken given true (input_of bytes) → Gave s done line given (lines_of bytes)
+    → done ≡ take (length done) (lines_of bytes) → (s ≡ stops.ReadFault → 1 ≤ faults) → StopsSo s done line faults taken bytes
+stops-so stops.Ended answer done line given faults taken bytes is says gave first read =
+    let end = subst (λ (a : Option Next). StopSays a input_bound taken given true (input_of bytes)) is says in
+    let all : length (lines_of bytes) ≤ length done = omega (arith, length-map (transactions bytes) line_bytes, end.2 refl, gave) in
+    (first ∙ take_all (length done) (lines_of bytes) all, end.1 refl)
+stops-so stops.ReadFault answer done line given faults taken bytes is says gave first read =
+    let end = subst (λ (a : Option Next). StopSays a input_bound taken given true (input_of bytes)) is says in
+    (read refl, omega (arith, end refl, gave))
+stops-so (stops.LongLine n) answer done line given faults taken bytes is says gave first read =
+    subst (λ (a : Option Next). StopSays a input_bound taken given true (input_of bytes)) is says
+stops-so stops.Bound answer done line given faults taken bytes is says gave first read =
+    let end = subst (λ (a : Option Next). StopSays a input_bound taken given true (input_of bytes)) is says in
+    let all : length (lines_of bytes) ≤ length done = omega (arith, length-map (transactions bytes) line_bytes, end.2 refl, gave) in
+    (first ∙ take_all (length done) (lines_of bytes) all, end.1 refl, end.0)
+stops-so stops.PrintFailed answer done line given faults taken bytes is says gave first read = gave
+stops-so stops.NoMemory answer done line given faults taken bytes is says gave first read = tt
+
+stop-says : (s : Option Next) (bound bound' taken taken' given : ℕ) (tells tells' : Bool) (ss ss' : List SourceBytes)
+    → bound ≡ bound' → taken ≡ taken' → tells ≡ tells' → ss ≡ ss' → StopSays s bound taken given tells ss → StopSays s bound' taken' given tells' ss'
+stop-says s bound bound' taken taken' given tells tells' ss ss' p q r u says = rw (sym p, sym q, sym r, sym u) says
+
+module _ {S E : Type 0} (gs : Source.Ghosts S) (text : List ℕ) where
+  -- the standard input was opened, its lines mapped, and it was kept
+  module _ (m : Mapping) (reads : BuiltReading text m) (pass : Pass) (i j : LineView S) (tells prints says prints' says' : Bool) (a b c d : Tale E (Contents (Named S))) (sources : Contents (Named S))
+      (printing : IsTrue prints' → IsTrue prints) (saying : IsTrue says' → IsTrue says) (fresh : IsFreshInput i) (opens : OpensInput gs i a b) (kept : SourcesKept gs i.sources.list j.sources.list) (bound : j.bound ≡ i.bound) (stands : Standing gs j)
+      (fault : pass.stop ≡ stops.ReadFault → 1 ≤ fault_count gs j.sources.list) (passed : Passed gs m pass j tells prints says b c) (only : PrintsOnly b c)
+      (given_back : sources ≡ j.sources) (keeps : d ≡ record c { input_keeps = once_more c.input_keeps; kept_input = Some sources }) (t : IsTrue tells) where
+    whole : d ≡ record a { calls = a.calls ++ source_opening ∷ []; stdin = b.stdin; printed = c.printed; lines = c.lines; input_keeps = once_more a.input_keeps; kept_input = Some j.sources }
+    whole =
+        let T : Type 0 = Tale E (Contents (Named S)) in
+        keeps ∙ ap (λ (o : Contents (Named S)). record c { input_keeps = once_more c.input_keeps; kept_input = Some o }) given_back
+        ∙ ap (λ (w : T). record w { input_keeps = once_more w.input_keeps; kept_input = Some j.sources }) (only ∙ ap (λ (w : T). record w { printed = c.printed; lines = c.lines }) opens.opens)
+
+    abbrev one : (s : S) × (j.sources.list ≡ record { path = None; source = s } ∷ []) × SourceKept gs (record { path = None; source = opens.source }) (record { path = None; source = s })
+    one = one-kept gs i.sources.list j.sources.list opens.source opens.sources kept
+
+    abbrev source : S
+    source = one.0
+
+    is_bound : j.bound ≡ input_bound
+    is_bound = bound ∙ fresh.bound
+
+    telling : all_tell gs j.sources.list ≡ gs.tells source
+    telling = ap (all_tell gs) one.1 ∙ and-true (gs.tells source)
+
+    told_bytes : told gs j.sources.list ≡ input_of (gs.bytes source)
+    told_bytes = ap (told gs) one.1
+
+    same_lines : all_lines gs j ≡ lines_of (gs.bytes source)
+    same_lines = ap (λ (n : ℕ). map line_bytes (batches n (told gs j.sources.list))) is_bound ∙ ap (λ (ss : List SourceBytes). map line_bytes (batches input_bound ss)) told_bytes
+
+    first : IsTrue (gs.tells source) → passed.done ≡ take (length passed.done) (lines_of (gs.bytes source))
+    first told_all = passed.whole.first (telling ∙ told_all) ∙ ap (take (length passed.done)) same_lines
+
+    ends : IsTrue (gs.tells source) → StopsSo pass.stop passed.done passed.line (gs.faults source) (gs.taken source) (gs.bytes source)
+    ends told_all =
+        let taken : j.taken ≡ gs.taken source = sym (stands.counted (telling ∙ told_all)) ∙ ap (taken_count gs) one.1 ∙ add-zero (gs.taken source) in
+        let says_so = stop-says j.stopped _ _ _ _ j.given _ _ _ _ is_bound taken (telling ∙ told_all) told_bytes stands.stop_says in
+        let faults : fault_count gs j.sources.list ≡ gs.faults source = ap (fault_count gs) one.1 ∙ add-zero (gs.faults source) in
+        stops-so pass.stop j.stopped passed.done passed.line j.given (gs.faults source) (gs.taken source) (gs.bytes source) passed.answer says_so
+        (subst (λ (ls : List (List ℕ)). Gave pass.stop passed.done passed.line j.given ls) same_lines (passed.gave (telling ∙ told_all))) (first told_all)
+        (λ is. subst (λ (n : ℕ). 1 ≤ n) faults (fault is))
+
+    maps : MapsLines gs text pass [] prints' says' a d
+    maps =
+        let T : Type 0 = Tale E (Contents (Named S)) in
+        record {
+          mapping = m;
+          reads = reads;
+          sources = j.sources;
+          source = source;
+          done = passed.done;
+          line = passed.line;
+          front = passed.front;
+          once = ap (λ (w : T). w.input_keeps) whole;
+          kept = ap (λ (w : T). w.kept_input) whole;
+          one = one.1;
+          place = one.2.placed ∙ opens.place;
+          input = λ told_all. one.2.same told_all ∙ opens.input (one.2.told told_all);
+          printed = λ p. ap (λ (w : T). w.printed) whole ∙ passed.whole.printed t (printing p) ∙ ap (λ (w : T). w.printed ++ (blobl_text m passed.done ++ passed.front)) opens.opens;
+          said = λ p.
+              ap (λ (w : T). w.lines) whole ∙ passed.whole.said t (saying p) ∙ ap (λ (w : T). w.lines ++ blobl_errors m passed.done) opens.opens
+              ∙ ap (λ (ls : List (List ℕ)). a.lines ++ ls) (sym (append-nil (blobl_errors m passed.done)));
+          front_is = passed.front_is;
+          failed = passed.whole.failed;
+          first = first;
+          ends = ends;
+        }
+
+    pub went-mapped : BloblWent gs text (course.Mapped pass) [] prints' says' a d
+    went-mapped =
+        let T : Type 0 = Tale E (Contents (Named S)) in
+        record {
+          part = source_opening ∷ [];
+          calls = ap (λ (w : T). w.calls) whole;
+          openings = refl;
+          others =
+              record {
+                files = ap (λ (w : T). w.files) whole;
+                clock = ap (λ (w : T). w.clock) whole;
+                clocks = ap (λ (w : T). w.clocks) whole;
+                keeps = ap (λ (w : T). w.keeps) whole;
+                kept = ap (λ (w : T). w.kept) whole;
+                load_keeps = ap (λ (w : T). w.load_keeps) whole;
+                kept_load = ap (λ (w : T). w.kept_load) whole;
+              };
+          maps = maps;
+        }
+
+  -- no line could be read
+  pub went-none : (came : BloblCourse) (prints says : Bool) (a b : Tale E (Contents (Named S))) → IsNoOpening came → OpensNone came a b → BloblWent gs text came [] prints says a b
+  went-none came prints says a b none opened =
+      let T : Type 0 = Tale E (Contents (Named S)) in
+      record {
+        part = opened.part;
+        calls = opened.calls;
+        openings = opened.openings;
+        others =
+            record {
+              files = ap (λ (w : T). w.files) opened.only;
+              clock = ap (λ (w : T). w.clock) opened.only;
+              clocks = ap (λ (w : T). w.clocks) opened.only;
+              keeps = ap (λ (w : T). w.keeps) opened.only;
+              kept = ap (λ (w : T). w.kept) opened.only;
+              load_keeps = ap (λ (w : T). w.load_keeps) opened.only;
+              kept_load = ap (λ (w : T). w.kept_load) opened.only;
+            };
+        maps = maps-none came prints says a b none (record {
+          printed = ap (λ (w : T). w.printed) opened.only;
+          said = λ p. ap (λ (w : T). w.lines) opened.only ∙ sym (append-nil a.lines);
+          input_keeps = ap (λ (w : T). w.input_keeps) opened.only;
+          kept_input = ap (λ (w : T). w.kept_input) opened.only;
+        });
+      }
+    where
+      maps-none : (came : BloblCourse) (prints says : Bool) (a b : Tale E (Contents (Named S))) → IsNoOpening came → MapsNone [] says a b → MapsBy gs text came [] prints says a b
+      maps-none (course.Faulty fault at) prints says a b none nothing = absurd none
+      maps-none course.NotBuilt prints says a b none nothing = absurd none
+      maps-none course.NoSource prints says a b none nothing = nothing
+      maps-none course.NoMemory prints says a b none nothing = nothing
+      maps-none (course.Mapped pass) prints says a b none nothing = absurd none
+
+  -- the text is no mapping that runs
+  pub went-unread : (came : BloblCourse) (prints says : Bool) (a : Tale E (Contents (Named S))) → IsUnread came → BloblWent gs text came [] prints says a a
+  went-unread came prints says a none = record {
+    part = [];
+    calls = sym (append-nil a.calls);
+    openings = unread-part came none;
+    others = record { files = refl; clock = refl; clocks = refl; keeps = refl; kept = refl; load_keeps = refl; kept_load = refl };
+    maps = maps-unread came none (record { printed = refl; said = λ p. sym (append-nil a.lines); input_keeps = refl; kept_input = refl });
+  }
+    where
+      unread-part : (came : BloblCourse) → IsUnread came → IsBloblPart came []
+      unread-part (course.Faulty fault at) none = refl
+      unread-part course.NotBuilt none = refl
+      unread-part course.NoSource none = absurd none
+      unread-part course.NoMemory none = (0, refl)
+      unread-part (course.Mapped pass) none = absurd none
+
+      maps-unread : (came : BloblCourse) → IsUnread came → MapsNone [] says a a → MapsBy gs text came [] prints says a a
+      maps-unread (course.Faulty fault at) none nothing = nothing
+      maps-unread course.NotBuilt none nothing = nothing
+      maps-unread course.NoSource none nothing = absurd none
+      maps-unread course.NoMemory none nothing = nothing
+      maps-unread (course.Mapped pass) none nothing = absurd none
+
+  -- the last lines were said
+  module _ (last : List (List ℕ)) (prints says prints' says' : Bool) (a b c : Tale E (Contents (Named S))) (printing : IsTrue prints' → IsTrue prints) (saying : IsTrue says' → IsTrue says)
+      (same : c ≡ record b { lines = c.lines }) (added : IsTrue says' → c.lines ≡ b.lines ++ last) where
+    none-said : MapsNone [] says a b → MapsNone last says' a c
+    none-said nothing = record {
+      printed = ap (λ (w : Tale E (Contents (Named S))). w.printed) same ∙ nothing.printed;
+      said = λ p. added p ∙ ap (λ (ls : List (List ℕ)). ls ++ last) (nothing.said (saying p) ∙ append-nil a.lines);
+      input_keeps = ap (λ (w : Tale E (Contents (Named S))). w.input_keeps) same ∙ nothing.input_keeps;
+      kept_input = ap (λ (w : Tale E (Contents (Named S))). w.kept_input) same ∙ nothing.kept_input;
+    }
+
+    lines-said : (pass : Pass) → MapsLines gs text pass [] prints says a b → MapsLines gs text pass last prints' says' a c
+    lines-said pass mapped = record {
+      mapping = mapped.mapping;
+      reads = mapped.reads;
+      sources = mapped.sources;
+      source = mapped.source;
+      done = mapped.done;
+      line = mapped.line;
+      front = mapped.front;
+      once = ap (λ (w : Tale E (Contents (Named S))). w.input_keeps) same ∙ mapped.once;
+      kept = ap (λ (w : Tale E (Contents (Named S))). w.kept_input) same ∙ mapped.kept;
+      one = mapped.one;
+      place = mapped.place;
+      input = mapped.input;
+      printed = λ p. ap (λ (w : Tale E (Contents (Named S))). w.printed) same ∙ mapped.printed (printing p);
+      said = λ p. joined a.lines b.lines c.lines (blobl_errors mapped.mapping mapped.done) last (mapped.said (saying p)) (added p);
+      front_is = mapped.front_is;
+      failed = mapped.failed;
+      first = mapped.first;
+      ends = mapped.ends;
+    }
+
+    maps-said : (came : BloblCourse) → MapsBy gs text came [] prints says a b → MapsBy gs text came last prints' says' a c
+    maps-said (course.Faulty fault at) m = none-said m
+    maps-said course.NotBuilt m = none-said m
+    maps-said course.NoSource m = none-said m
+    maps-said course.NoMemory m = none-said m
+    maps-said (course.Mapped pass) m = lines-said pass m
+
+    pub went-said : (came : BloblCourse) → BloblWent gs text came [] prints says a b → BloblWent gs text came last prints' says' a c
+    went-said came went = record {
+      part = went.part;
+      calls = ap (λ (w : Tale E (Contents (Named S))). w.calls) same ∙ went.calls;
+      openings = went.openings;
+      others =
+          record {
+            files = ap (λ (w : Tale E (Contents (Named S))). w.files) same ∙ went.others.files;
+            clock = ap (λ (w : Tale E (Contents (Named S))). w.clock) same ∙ went.others.clock;
+            clocks = ap (λ (w : Tale E (Contents (Named S))). w.clocks) same ∙ went.others.clocks;
+            keeps = ap (λ (w : Tale E (Contents (Named S))). w.keeps) same ∙ went.others.keeps;
+            kept = ap (λ (w : Tale E (Contents (Named S))). w.kept) same ∙ went.others.kept;
+            load_keeps = ap (λ (w : Tale E (Contents (Named S))). w.load_keeps) same ∙ went.others.load_keeps;
+            kept_load = ap (λ (w : Tale E (Contents (Named S))). w.kept_load) same ∙ went.others.kept_load;
+          };
+      maps = maps-said came went.maps;
+    }
+
+-- the counts of a course under other names
+pub counts-named : (came : BloblCourse) (opens opens' opens'' prints prints' prints'' : ℕ) → opens'' ≡ opens' → prints'' ≡ prints' → BloblCounts came opens opens' prints prints' → BloblCounts came opens opens'' prints prints''
+counts-named came opens opens' opens'' prints prints' prints'' p q counts = rw (p, q) counts
