@@ -1,6 +1,6 @@
 -- A desk stands after an admission.
 use Rattle.std.proofs.Common.{◌≡◌, ℕ, zero, suc, ◌+◌, ◌-◌, ◌^◌, ◌<◌, ◌≤◌, List, [], ◌∷◌, length, take, drop, refl, ap, ◌∙◌, sym, subst, arith, IsTrue, Some, None, IsSome, slice_get, length-drop, zero-add}
-use Rattle.bt_ports.specs.Intake.{stop_of, NextFaults, NextLowers, NextGives}
+use Rattle.bt_ports.specs.Intake.{InputStop, stop_of, NextFaults, NextLowers, NextGives, NextStops}
 use Rattle.bt_ports.specs.Contents.{Contents}
 use Rattle.bt_ports.specs.declared.parts.Item.{Item}
 use Rattle.bt_ports.specs.declared.parts.Next.{Next}
@@ -8,12 +8,13 @@ use Rattle.bt_ports.specs.declared.parts.Next.TheVariants as next
 use Rattle.bt_ports.specs.declared.outside.Sink as Sink
 use Rattle.bt_ports.specs.declared.outside.Intake as Intake
 use Rattle.bt_ports.specs.declared.outside.Answerer as Answerer
+use Rattle.bt_ports.specs.declared.outside.Clock as Clock
 use Rattle.bt_desk.specs.declared.report.Ending.{Ending}
 use Rattle.bt_desk.specs.declared.report.Ending.TheVariants as ending
 use Rattle.bt_desk.specs.declared.report.Report.{Report}
 use Rattle.bt_desk.specs.History.{Settled}
 use Rattle.bt_desk.specs.DeskView.{DeskView}
-use Rattle.bt_desk.specs.Stands.{StandsWith, ending_of, TakesWhole, FaultCounted}
+use Rattle.bt_desk.specs.Stands.{StandsWith, ending_of, TakesWhole, IsStop, FaultCounted}
 
 slice_get-drop : {X : Type 0} (m : ℕ) (xs : List X) (i : ℕ) → slice_get (drop m xs) i ≡ slice_get xs (m + i)
 slice_get-drop zero [] i = refl
@@ -61,6 +62,14 @@ module _ (n : Ending) where
   fault-ended next.Bound f f' e p = let same : ending.Bound ≡ n = cc in subst (λ (m : Ending). FaultCounted (Some m) f') same tt
   fault-ended next.NoMemory f f' e p = let same : ending.NoMemory ≡ n = cc in subst (λ (m : Ending). FaultCounted (Some m) f') same tt
 
+  pub stop-ended : (a : Next) (stop : InputStop) (bound : ℕ) → ending_of (stop_of a) ≡ Some n → NextStops a stop bound → IsStop (Some n) stop bound
+  stop-ended (next.Batch items) stop bound e p = absurd (some_is_none (sym e))
+  stop-ended next.End stop bound e p = let same : ending.Ended ≡ n = cc in subst (λ (m : Ending). IsStop (Some m) stop bound) same p
+  stop-ended next.Failed stop bound e p = let same : ending.ReadFault ≡ n = cc in subst (λ (m : Ending). IsStop (Some m) stop bound) same tt
+  stop-ended (next.LongLine j) stop bound e p = let same : ending.LongLine j ≡ n = cc in subst (λ (m : Ending). IsStop (Some m) stop bound) same p
+  stop-ended next.Bound stop bound e p = let same : ending.Bound ≡ n = cc in subst (λ (m : Ending). IsStop (Some m) stop bound) same p
+  stop-ended next.NoMemory stop bound e p = let same : ending.NoMemory ≡ n = cc in subst (λ (m : Ending). IsStop (Some m) stop bound) same tt
+
 -- a batch lowers what is left by its length, which is bounded
 pub batch-lowers : (a : Next) (items : Contents Item) (l m : ℕ) → a ≡ next.Batch items → NextLowers a l m → (1 ≤ length items.list) × (length items.list < 2 ^ 32) × (m + length items.list ≤ l)
 batch-lowers a items l m is h = subst (λ (x : Next). NextLowers x l m) is h
@@ -73,10 +82,12 @@ pub record Answered {I : Type 0} (g : Intake.Ghosts I) (a : Next) (i j : I) : Ty
   pub stops : g.stopped j ≡ stop_of a
   pub told : IsTrue (g.tells j) → IsTrue (g.tells i)
   pub same : IsTrue (g.tells j) → g.batches j ≡ g.batches i
+  pub stays : IsTrue (g.tells j) → g.stop j ≡ g.stop i
   pub gives : IsTrue (g.tells j) → NextGives a (g.batches i) (g.given i) (g.given j)
+  pub ends : IsTrue (g.tells j) → NextStops a (g.stop i) (g.bound j)
 
-module _ {I K A C : Type 0} (gi : Intake.Ghosts I) (gk : Sink.Ghosts K) (ga : Answerer.Ghosts A) (d : DeskView I K A C) (j : I) (a : Next) (p : Answered gi a d.intake j) (h : List (List Settled)) (s : StandsWith gi gk ga d h) where
-  pub stands-ended : (n : Ending) → ending_of (stop_of a) ≡ Some n → StandsWith gi gk ga (record d { intake = j; report = record d.report { ending = Some n } }) h
+module _ {I K A C : Type 0} (gi : Intake.Ghosts I) (gk : Sink.Ghosts K) (ga : Answerer.Ghosts A) (gc : Clock.Ghosts C) (d : DeskView I K A C) (j : I) (a : Next) (p : Answered gi a d.intake j) (h : List (List Settled)) (s : StandsWith gi gk ga gc d h) where
+  pub stands-ended : (n : Ending) → ending_of (stop_of a) ≡ Some n → StandsWith gi gk ga gc (record d { intake = j; report = record d.report { ending = Some n } }) h
   stands-ended n e = record {
     taken = s.taken;
     out = s.out;
@@ -85,6 +96,7 @@ module _ {I K A C : Type 0} (gi : Intake.Ghosts I) (gk : Sink.Ghosts K) (ga : An
         s.items (p.told t)
         ∙ ap (λ (bs : List (List Item)). take (length h) (drop (gi.given d.intake - d.report.taken) bs)) (sym (p.same t))
         ∙ ap (λ (g : ℕ). take (length h) (drop (g - d.report.taken) (gi.batches j))) (sym (given-ended n a _ _ _ e (p.gives t)));
+    read = s.read;
     one_sink = s.one_sink;
     accepted = s.accepted;
     refused = s.refused;
@@ -98,6 +110,7 @@ module _ {I K A C : Type 0} (gi : Intake.Ghosts I) (gk : Sink.Ghosts K) (ga : An
         subst (λ (bs : List (List Item)). TakesWhole (Some n) d.report.taken (length (drop (gi.given j - d.report.taken) bs))) (sym (p.same t))
         (subst (λ (g : ℕ). TakesWhole (Some n) d.report.taken (length (drop (g - d.report.taken) (gi.batches d.intake)))) (sym (given-ended n a _ _ _ e (p.gives t)))
         (whole-ended n a (gi.batches d.intake) (gi.given d.intake) (gi.given j) d.report.taken e (p.gives t) (s.given (p.told t))));
+    stop = λ t. subst (λ (k : InputStop). IsStop (Some n) k (gi.bound j)) (sym (p.stays t)) (stop-ended n a (gi.stop d.intake) (gi.bound j) e (p.ends t));
     read_fault = fault-ended n a (gi.faults d.intake) (gi.faults j) e p.failed;
     finished = λ f. ((s.finished f).0, refl);
     few = omega (arith, s.few, left-ended n a _ _ e p.lowers);

@@ -10,6 +10,7 @@ use Rattle.bt_ports.specs.declared.parts.AnswerCall.{AnswerCall}
 use Rattle.bt_ports.specs.declared.outside.Sink as Sink
 use Rattle.bt_ports.specs.declared.outside.Intake as Intake
 use Rattle.bt_ports.specs.declared.outside.Answerer as Answerer
+use Rattle.bt_ports.specs.declared.outside.Clock as Clock
 use Rattle.bt_desk.specs.declared.report.Report.{Report}
 use Rattle.bt_desk.specs.declared.report.Out.{Out}
 use Rattle.bt_desk.specs.History.{Settled, Numbered, numbered_items, numbered, items_of, was_accepted, was_refused, has_failed_answer, accepted_records, refused_records, answers}
@@ -23,7 +24,7 @@ none_failed : (m n f f' : ℕ) → (f ≡ 0 → m ≡ 0) → (0 < n → Rose f f
 none_failed m zero f f' p q h z = let k : f ≡ 0 = omega arith in omega (arith, p k)
 none_failed m (suc n) f f' p q h z = let k : 0 < suc n = omega arith in absurd (omega (arith, q k))
 
-module _ {I K A C : Type 0} (gi : Intake.Ghosts I) (gk : Sink.Ghosts K) (ga : Answerer.Ghosts A) (d : DeskView I K A C) (h : List (List Settled)) (s : StandsWith gi gk ga d h)
+module _ {I K A C : Type 0} (gi : Intake.Ghosts I) (gk : Sink.Ghosts K) (ga : Answerer.Ghosts A) (gc : Clock.Ghosts C) (d : DeskView I K A C) (h : List (List Settled)) (s : StandsWith gi gk ga gc d h)
     (n : ℕ) (items : List Item) (out : d.out ≡ record { number = n; items = length items } ∷ []) (number : n ≡ d.report.taken)
     (batch : IsTrue (gi.tells d.intake) → slice_get (run_of gi d) (d.report.taken - 1) ≡ Some items)
     (sinks : Contents K) (b : A) (txn : List Settled) (one_sink : length sinks.list ≡ 1)
@@ -61,12 +62,13 @@ module _ {I K A C : Type 0} (gi : Intake.Ghosts I) (gk : Sink.Ghosts K) (ga : An
   bounded_more =
       omega (arith, s.bounded, ap out_items out, count, ap length all ∙ length-append (numbered h) (numbered_items n 0 txn), length-numbered_items n 0 txn)
 
-  pub stands-delivered : StandsWith gi gk ga (record d { sinks = sinks; answerer = b; out = []; report = counted_with d.report (numbered_items n 0 txn) }) (h ++ txn ∷ [])
+  pub stands-delivered : StandsWith gi gk ga gc (record d { sinks = sinks; answerer = b; out = []; report = counted_with d.report (numbered_items n 0 txn) }) (h ++ txn ∷ [])
   stands-delivered = record {
     taken = omega (arith, length-append h (txn ∷ []), delivered);
     out = inl refl;
     given = s.given;
     items = items_more;
+    read = s.read;
     one_sink = one_sink;
     accepted = λ k e t.
         let p = puts k e in
@@ -89,6 +91,7 @@ module _ {I K A C : Type 0} (gi : Intake.Ghosts I) (gk : Sink.Ghosts K) (ga : An
     ending = s.ending;
     goes = s.goes;
     whole = s.whole;
+    stop = s.stop;
     read_fault = s.read_fault;
     finished = λ f. (refl, (s.finished f).1);
     few = s.few;
@@ -97,7 +100,7 @@ module _ {I K A C : Type 0} (gi : Intake.Ghosts I) (gk : Sink.Ghosts K) (ga : An
 
   -- the same with the list and the report that the code has
   pub stands-after : (o : List Out) (r : Report) → o ≡ [] → r ≡ counted_with d.report (numbered_items n 0 txn)
-      → StandsWith gi gk ga (record d { sinks = sinks; answerer = b; out = o; report = r }) (h ++ txn ∷ [])
+      → StandsWith gi gk ga gc (record d { sinks = sinks; answerer = b; out = o; report = r }) (h ++ txn ∷ [])
   stands-after o r idle counts =
-      subst (λ (x : List Out). StandsWith gi gk ga (record d { sinks = sinks; answerer = b; out = x; report = r }) (h ++ txn ∷ [])) (sym idle)
-      (subst (λ (x : Report). StandsWith gi gk ga (record d { sinks = sinks; answerer = b; out = []; report = x }) (h ++ txn ∷ [])) (sym counts) stands-delivered)
+      subst (λ (x : List Out). StandsWith gi gk ga gc (record d { sinks = sinks; answerer = b; out = x; report = r }) (h ++ txn ∷ [])) (sym idle)
+      (subst (λ (x : Report). StandsWith gi gk ga gc (record d { sinks = sinks; answerer = b; out = []; report = x }) (h ++ txn ∷ [])) (sym counts) stands-delivered)

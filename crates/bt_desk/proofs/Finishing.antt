@@ -3,6 +3,7 @@ use Rattle.std.proofs.Common.{◌≡◌, ◌⊎◌, inl, inr, ℕ, List, [], ◌
 use Rattle.bt_ports.specs.declared.outside.Sink as Sink
 use Rattle.bt_ports.specs.declared.outside.Intake as Intake
 use Rattle.bt_ports.specs.declared.outside.Answerer as Answerer
+use Rattle.bt_ports.specs.declared.outside.Clock as Clock
 use Rattle.std.specs.Prelude.{count_by}
 use Rattle.bt_desk.specs.declared.report.Out.{Out}
 use Rattle.bt_desk.specs.declared.report.Report.{Report}
@@ -14,7 +15,7 @@ use Rattle.bt_desk.proofs.Clean.{accepted-clean, refused-clean, answered-clean}
 use Rattle.bt_desk.proofs.Counting.{accepted-counted, refused-counted, acknowledged-counted, others-counted, failed-counted}
 use Rattle.bt_desk.proofs.Rising.{accepted-rise, refused-rise, answers-rise}
 
-module _ {I K A C : Type 0} (gi : Intake.Ghosts I) (gk : Sink.Ghosts K) (ga : Answerer.Ghosts A) (d : DeskView I K A C) (h : List (List Settled)) (s : StandsWith gi gk ga d h) where
+module _ {I K A C : Type 0} (gi : Intake.Ghosts I) (gk : Sink.Ghosts K) (ga : Answerer.Ghosts A) (gc : Clock.Ghosts C) (d : DeskView I K A C) (h : List (List Settled)) (s : StandsWith gi gk ga gc d h) where
   pub stands-rises : Rises gk ga d
   stands-rises = record {
     accepted = λ k e t. subst RecordsRise (sym (s.accepted k e t)) (accepted-rise h);

@@ -1,5 +1,5 @@
 use Rattle.std.specs.Prelude.{◌≡◌, ℕ, ◌+◌, ◌-◌, ◌^◌, ◌<◌, ◌≤◌, List, [], ◌∷◌, length, false, IsTrue, Some, None, slice_get, ◌⊎◌}
-use Rattle.bt_ports.specs.Faults.{Rose, one_more}
+use Rattle.bt_ports.specs.Faults.{Rose}
 use Rattle.bt_ports.specs.Clock.{reading_at}
 use Rattle.bt_ports.specs.declared.parts.Txn.{Txn}
 use Rattle.bt_ports.specs.declared.outside.Sink as Sink
@@ -23,6 +23,10 @@ IsUnwritten {K} g sinks = (k : K) → slice_get sinks 0 ≡ Some k → IsTrue (g
 abbrev pub IsUnanswered : {A : Type 0} → Answerer.Ghosts A → A → Type 0
 IsUnanswered g a = IsTrue (g.tells a) → g.calls a ≡ []
 
+-- a clock on which no reading was made
+abbrev pub IsUnread : {C : Type 0} → Clock.Ghosts C → C → Type 0
+IsUnread g c = IsTrue (g.tells c) → g.made c ≡ 0
+
 -- a desk at its beginning, over these parts
 pub record Begins {I K A C : Type 0} (d : DeskView I K A C) (p : Parts I K A C) : Type 0 where
   pub intake : d.intake ≡ p.intake
@@ -33,14 +37,18 @@ pub record Begins {I K A C : Type 0} (d : DeskView I K A C) (p : Parts I K A C) 
   pub report : d.report ≡ report_of 0 [] None
   pub finished : d.finished ≡ false
 
--- no call changes the run: its batches and how many were given before it, nor what the intake reads
-pub record SameRun {I K A C : Type 0} (g : Intake.Ghosts I) (d e : DeskView I K A C) : Type 0 where
+-- no call changes the run: its batches, how many were given before it and where they stop, what the intake reads, and
+-- the readings of the clock
+pub record SameRun {I K A C : Type 0} (g : Intake.Ghosts I) (gc : Clock.Ghosts C) (d e : DeskView I K A C) : Type 0 where
   pub told : IsTrue (g.tells e.intake) → IsTrue (g.tells d.intake)
   pub openings : g.openings e.intake ≡ g.openings d.intake
-  pub bound : g.bound e.intake ≡ g.bound d.intake
+  pub bounds : g.bounds e.intake ≡ g.bounds d.intake
   pub inputs : IsTrue (g.tells e.intake) → g.inputs e.intake ≡ g.inputs d.intake
   pub batches : IsTrue (g.tells e.intake) → g.batches e.intake ≡ g.batches d.intake
+  pub stop : IsTrue (g.tells e.intake) → g.stop e.intake ≡ g.stop d.intake
   pub before : IsTrue (g.tells e.intake) → given_before g e ≡ given_before g d
+  pub clock_told : IsTrue (gc.tells e.clock) → IsTrue (gc.tells d.clock)
+  pub readings : IsTrue (gc.tells e.clock) → gc.readings e.clock ≡ gc.readings d.clock
 
 -- the transaction that was taken last, with its items, is out
 pub record IsOut {I K A C : Type 0} (g : Intake.Ghosts I) (d : DeskView I K A C) (t : Txn) : Type 0 where
@@ -55,10 +63,7 @@ pub record Takes {I K A C : Type 0} (gi : Intake.Ghosts I) (gc : Clock.Ghosts C)
   pub report : e.report ≡ record d.report { taken = d.report.taken + 1 }
   pub some : 1 ≤ length t.items.list
   pub left : gi.left e.intake + length t.items.list ≤ gi.left d.intake
-  pub moment : IsTrue (gc.tells e.clock) → t.moment ≡ reading_at (gc.readings d.clock) (gc.made d.clock)
-  pub told : IsTrue (gc.tells e.clock) → IsTrue (gc.tells d.clock)
-  pub readings : IsTrue (gc.tells e.clock) → gc.readings e.clock ≡ gc.readings d.clock
-  pub counts : IsTrue (gc.tells e.clock) → gc.made e.clock ≡ one_more (gc.made d.clock)
+  pub moment : IsTrue (gc.tells e.clock) → t.moment ≡ reading_at (gc.readings d.clock) d.report.taken
 
 -- an admission that found this ending: nothing is out, and the clock wasn't read
 pub record EndsWith {I K A C : Type 0} (gi : Intake.Ghosts I) (n : Ending) (d e : DeskView I K A C) : Type 0 where
@@ -79,9 +84,18 @@ answer_to ending.NoMemory = admit.NoMemory
 abbrev pub Admits : {I K A C : Type 0} → Intake.Ghosts I → Clock.Ghosts C → Admit → DeskView I K A C → DeskView I K A C → Type 0
 Admits gi gc (admit.Job t) d e = Takes gi gc t d e
 Admits gi gc admit.Ended d e = EndsWith gi ending.Ended d e
-Admits gi gc admit.ReadFault d e = EndsWith gi ending.ReadFault d e × Rose (gi.faults d.intake) (gi.faults e.intake)
+Admits gi gc admit.ReadFault d e = EndsWith gi ending.ReadFault d e
 Admits gi gc admit.Bound d e = EndsWith gi ending.Bound d e ⊎ ((n : ℕ) × EndsWith gi (ending.LongLine n) d e)
 Admits gi gc admit.NoMemory d e = EndsWith gi ending.NoMemory d e
+
+-- an admission finds a read fault only where the intake's count of faults rose. Where it took a transaction, and where it
+-- found the end, a line past its limit or the bound, no read failed: the count stands still
+abbrev pub AdmitFaults : Admit → ℕ → ℕ → Type 0
+AdmitFaults (admit.Job t) before after = after ≡ before
+AdmitFaults admit.Ended before after = after ≡ before
+AdmitFaults admit.ReadFault before after = Rose before after
+AdmitFaults admit.Bound before after = after ≡ before
+AdmitFaults admit.NoMemory before after = Unit {0}
 
 -- an admission leaves what was written and answered
 pub record OnlyAdmits {I K A C : Type 0} (g : Intake.Ghosts I) (d e : DeskView I K A C) : Type 0 where

@@ -39,7 +39,7 @@ impl<I: Intake, K: Sink, A: Answerer, C: Clock> Model for Desk<I, K, A, C> {
     ghost view = { shown };
 
     // There is room for the transaction that is out, and what stands between two calls holds.
-    ghost invariant = { λ d. record { room : 1 ≤ vec_capacity d.out; stands : Stands ⟦<I as Intake>⟧ ⟦<K as Sink>⟧ ⟦<A as Answerer>⟧ (shown d) } };
+    ghost invariant = { λ d. record { room : 1 ≤ vec_capacity d.out; stands : Stands ⟦<I as Intake>⟧ ⟦<K as Sink>⟧ ⟦<A as Answerer>⟧ ⟦<C as Clock>⟧ (shown d) } };
 }
 
 /// The batch, or the ending that another answer of an intake is.
@@ -74,7 +74,7 @@ impl<I: Intake, K: Sink, A: Answerer, C: Clock> Desk<I, K, A, C> {
     ghost use Rattle.bt_desk.specs.Stands.{Stands};
     ghost use Rattle.bt_desk.specs.History.{Settled};
     ghost use Rattle.bt_desk.specs.Outcome.{Counts, Rises, IsClean};
-    ghost use Rattle.bt_desk.specs.Calls.{IsUnwritten, IsUnanswered, Begins, SameRun, IsOut, Admits, OnlyAdmits, Delivers};
+    ghost use Rattle.bt_desk.specs.Calls.{IsUnwritten, IsUnanswered, IsUnread, Begins, SameRun, IsOut, Admits, AdmitFaults, OnlyAdmits, Delivers};
 
     /// A desk over these parts, on which nothing was taken. It reserves the room for the transaction that is out.
     ///
@@ -92,8 +92,9 @@ impl<I: Intake, K: Sink, A: Answerer, C: Clock> Desk<I, K, A, C> {
         requires few { I.left parts.intake < 2 ^ 56 }
         requires unwritten { IsUnwritten ⟦<K as Sink>⟧ parts.sinks.list }
         requires unanswered { IsUnanswered ⟦<A as Answerer>⟧ parts.answerer }
+        requires unread { IsUnread ⟦<C as Clock>⟧ parts.clock }
         ensures begins { IfOk result (λ desk. Begins desk parts) }
-        ensures stands { IfOk result (λ desk. Stands ⟦<I as Intake>⟧ ⟦<K as Sink>⟧ ⟦<A as Answerer>⟧ desk) }
+        ensures stands { IfOk result (λ desk. Stands ⟦<I as Intake>⟧ ⟦<K as Sink>⟧ ⟦<A as Answerer>⟧ ⟦<C as Clock>⟧ desk) }
         ensures parts { IfErr result (λ e. e.1 ≡ parts) }
     {
         match Vec::with_capacity(alloc, 1) {
@@ -126,9 +127,10 @@ impl<I: Intake, K: Sink, A: Answerer, C: Clock> Desk<I, K, A, C> {
         requires idle { self.old.out ≡ [] }
         requires goes { self.old.report.ending ≡ None }
         ensures admits { Admits ⟦<I as Intake>⟧ ⟦<C as Clock>⟧ result self.old self.new }
+        ensures faults { AdmitFaults result (I.faults self.old.intake) (I.faults self.new.intake) }
         ensures only { OnlyAdmits ⟦<I as Intake>⟧ self.old self.new }
-        ensures run { SameRun ⟦<I as Intake>⟧ self.old self.new }
-        ensures stands { Stands ⟦<I as Intake>⟧ ⟦<K as Sink>⟧ ⟦<A as Answerer>⟧ self.new }
+        ensures run { SameRun ⟦<I as Intake>⟧ ⟦<C as Clock>⟧ self.old self.new }
+        ensures stands { Stands ⟦<I as Intake>⟧ ⟦<K as Sink>⟧ ⟦<A as Answerer>⟧ ⟦<C as Clock>⟧ self.new }
     {
         match batch_of(self.intake.next()) {
             Ok(items) => {
@@ -159,8 +161,8 @@ impl<I: Intake, K: Sink, A: Answerer, C: Clock> Desk<I, K, A, C> {
     pub fn deliver(&mut self, txn: Txn)
         requires out { IsOut ⟦<I as Intake>⟧ self.old txn }
         ensures delivers { ((items : List Settled) × Delivers ⟦<K as Sink>⟧ ⟦<A as Answerer>⟧ txn self.old self.new items) }
-        ensures run { SameRun ⟦<I as Intake>⟧ self.old self.new }
-        ensures stands { Stands ⟦<I as Intake>⟧ ⟦<K as Sink>⟧ ⟦<A as Answerer>⟧ self.new }
+        ensures run { SameRun ⟦<I as Intake>⟧ ⟦<C as Clock>⟧ self.old self.new }
+        ensures stands { Stands ⟦<I as Intake>⟧ ⟦<K as Sink>⟧ ⟦<A as Answerer>⟧ ⟦<C as Clock>⟧ self.new }
     {
         settle(
             &mut self.sinks,
@@ -177,7 +179,7 @@ impl<I: Intake, K: Sink, A: Answerer, C: Clock> Desk<I, K, A, C> {
         requires ended { IsSome self.old.report.ending }
         requires idle { self.old.out ≡ [] }
         ensures finished { self.new ≡ record self.old { finished = true } }
-        ensures stands { Stands ⟦<I as Intake>⟧ ⟦<K as Sink>⟧ ⟦<A as Answerer>⟧ self.new }
+        ensures stands { Stands ⟦<I as Intake>⟧ ⟦<K as Sink>⟧ ⟦<A as Answerer>⟧ ⟦<C as Clock>⟧ self.new }
     {
         self.finished = true;
     }
@@ -186,7 +188,7 @@ impl<I: Intake, K: Sink, A: Answerer, C: Clock> Desk<I, K, A, C> {
     pub fn report(&self) -> Report
         ensures report { result ≡ self.now.report }
         ensures counts { Counts ⟦<K as Sink>⟧ ⟦<A as Answerer>⟧ self.now }
-        ensures stands { Stands ⟦<I as Intake>⟧ ⟦<K as Sink>⟧ ⟦<A as Answerer>⟧ self.now }
+        ensures stands { Stands ⟦<I as Intake>⟧ ⟦<K as Sink>⟧ ⟦<A as Answerer>⟧ ⟦<C as Clock>⟧ self.now }
     {
         self.report
     }
@@ -201,7 +203,7 @@ impl<I: Intake, K: Sink, A: Answerer, C: Clock> Desk<I, K, A, C> {
         ensures sinks { result.sinks ≡ self.sinks }
         ensures answerer { result.answerer ≡ self.answerer }
         ensures clock { result.clock ≡ self.clock }
-        ensures stands { Stands ⟦<I as Intake>⟧ ⟦<K as Sink>⟧ ⟦<A as Answerer>⟧ self }
+        ensures stands { Stands ⟦<I as Intake>⟧ ⟦<K as Sink>⟧ ⟦<A as Answerer>⟧ ⟦<C as Clock>⟧ self }
         ensures idle { self.out ≡ [] }
         ensures counts { Counts ⟦<K as Sink>⟧ ⟦<A as Answerer>⟧ self }
         ensures rises { Rises ⟦<K as Sink>⟧ ⟦<A as Answerer>⟧ self }

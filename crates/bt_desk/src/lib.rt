@@ -10,5 +10,3 @@ pub mod desk;
 pub mod parts;
 pub mod report;
 mod settle;
-#[cfg(test)]
-mod tests;

@@ -6,7 +6,7 @@ use Rattle.std.proofs.lemmas.List.Splits.{slice_split_at, slice_split_none, leng
 use Rattle.std.proofs.lemmas.Bool.{cases_Bool, leb-true, leb-false, le-leb, lt-leb, ne_eqb, and_left, and_right}
 use Rattle.std.proofs.Math.Seq.{take-append-add, take-append_seam}
 use Rattle.bt_ports.specs.declared.parts.Item.{Item}
-use Rattle.bt_ports.specs.declared.parts.Next.TheVariants as next
+use Rattle.bt_ports.specs.Intake.{input_end, bound_met}
 use Rattle.bt_intake.specs.Lines.{SourceBytes, byte_count, within, is_line_feed, lines_among, item, items, reaches, batches, stop}
 use Rattle.bt_intake.specs.Progress.{HasNoFeed, Follows, source}
 
@@ -225,9 +225,9 @@ get-dropped (suc n) [] x later e = absurd (omega (arith, ap length e))
 get-dropped (suc n) (y ∷ ys) x later e = get-dropped n ys x later e
 
 -- fewer bytes than the bound: the input ends
-pub stops-end : (all : List SourceBytes) (given taken bound : ℕ) → taken < bound → Follows all given taken [] [] → stop bound all ≡ next.End
+pub stops-end : (all : List SourceBytes) (given taken bound : ℕ) → taken < bound → Follows all given taken [] [] → stop bound all ≡ input_end
 stops-end all given taken bound w f = rw (lt-leb bound (byte_count all) (omega (arith, f.totals))) refl
 
 -- as many bytes as the bound: the input stops there
-pub stops-bound : (all : List SourceBytes) (given taken bound : ℕ) (uncut : List ℕ) (rest : List SourceBytes) → taken ≡ bound → length uncut ≤ byte_count rest → Follows all given taken uncut rest → stop bound all ≡ next.Bound
+pub stops-bound : (all : List SourceBytes) (given taken bound : ℕ) (uncut : List ℕ) (rest : List SourceBytes) → taken ≡ bound → length uncut ≤ byte_count rest → Follows all given taken uncut rest → stop bound all ≡ bound_met bound
 stops-bound all given taken bound uncut rest w h f = rw (le-leb bound (byte_count all) (omega (arith, f.totals))) refl

@@ -1,7 +1,7 @@
 -- The definition of lines and cuts, computed on small inputs: 97, 98 and 99 are `a`, `b` and `c`.
 use Rattle.std.proofs.Common.{◌≡◌, ℕ, List, [], ◌∷◌, None, Some, refl}
 use Rattle.bt_ports.specs.declared.parts.Item.{Item}
-use Rattle.bt_ports.specs.declared.parts.Next.TheVariants as next
+use Rattle.bt_ports.specs.Intake.{input_end, bound_met}
 use Rattle.bt_intake.specs.Lines.{SourceBytes, batches, stop}
 
 -- a source without a path
@@ -16,7 +16,7 @@ batch bytes = record { bytes = bytes; path = None } ∷ []
 empty_input : batches 100 (source [] ∷ []) ≡ []
 empty_input = refl
 
-empty_input_ends : stop 100 (source [] ∷ []) ≡ next.End
+empty_input_ends : stop 100 (source [] ∷ []) ≡ input_end
 empty_input_ends = refl
 
 -- an empty line is an item, and a last line needs no line feed
@@ -27,7 +27,7 @@ empty_line = refl
 bound_of_four : batches 4 (source (97 ∷ 10 ∷ 98 ∷ 10 ∷ 99 ∷ []) ∷ []) ≡ batch (97 ∷ []) ∷ batch (98 ∷ []) ∷ []
 bound_of_four = refl
 
-bound_of_four_stops : stop 4 (source (97 ∷ 10 ∷ 98 ∷ 10 ∷ 99 ∷ []) ∷ []) ≡ next.Bound
+bound_of_four_stops : stop 4 (source (97 ∷ 10 ∷ 98 ∷ 10 ∷ 99 ∷ []) ∷ []) ≡ bound_met 4
 bound_of_four_stops = refl
 
 -- with bound 3 the last piece, `b`, is cut off, though nothing but a line feed follows
@@ -35,7 +35,7 @@ bound_of_three : batches 3 (source (97 ∷ 10 ∷ 98 ∷ 10 ∷ []) ∷ []) ≡ 
 bound_of_three = refl
 
 -- the bound is reached where there are as many bytes
-bound_is_length : stop 2 (source (97 ∷ 98 ∷ []) ∷ []) ≡ next.Bound
+bound_is_length : stop 2 (source (97 ∷ 98 ∷ []) ∷ []) ≡ bound_met 2
 bound_is_length = refl
 
 -- one carriage return is dropped, at a source's end too

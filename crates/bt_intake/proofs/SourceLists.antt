@@ -21,6 +21,9 @@ get-slice_set [] i x y e = cc
 get-slice_set (z ∷ zs) zero x y e = refl
 get-slice_set (z ∷ zs) (suc i) x y e = get-slice_set zs i x y e
 
+some-same : {A : Type 0} {x y : A} → Some x ≡ Some y → x ≡ y
+some-same e = cc
+
 module _ {S : Type 0} (g : Source.Ghosts S) where
   pub kept-same : (n : Named S) → SourceKept g n n
   kept-same n = record { path = refl; placed = refl; counted = omega arith; told = λ t. t; same = λ t. refl }
@@ -103,6 +106,11 @@ module _ {S : Type 0} (g : Source.Ghosts S) where
   faults-kept (n ∷ ns) (m ∷ ms) k = omega (arith, k.0.counted, faults-kept ns ms k.1)
   faults-kept (n ∷ ns) [] k = absurd k
   faults-kept [] (m ∷ ms) k = absurd k
+
+  pub faults-slice_set : (ns : List (Named S)) (i : ℕ) (n m : Named S) → slice_get ns i ≡ Some n → g.faults m.source ≡ g.faults n.source → fault_count g (slice_set ns i m) ≡ fault_count g ns
+  faults-slice_set [] i n m e f = cc
+  faults-slice_set (x ∷ xs) zero n m e f = let same : g.faults x.source ≡ g.faults n.source = ap (λ y. g.faults y.source) (some-same e) in ap (λ k. k + fault_count g xs) (f ∙ sym same)
+  faults-slice_set (x ∷ xs) (suc i) n m e f = ap (λ k. g.faults x.source + k) (faults-slice_set xs i n m e f)
 
   pub rose-slice_set : (ns : List (Named S)) (i : ℕ) (n m : Named S) → slice_get ns i ≡ Some n → Rose (g.faults n.source) (g.faults m.source) → OneRose g ns (slice_set ns i m)
   rose-slice_set [] i n m e r = cc

@@ -5,15 +5,15 @@ use Rattle.std.proofs.lemmas.List.{drop_all}
 use Rattle.bt_ports.specs.declared.parts.Next.{Next}
 use Rattle.bt_ports.specs.declared.parts.Next.TheVariants as next
 use Rattle.bt_ports.specs.declared.outside.Source as Source
-use Rattle.bt_ports.specs.Intake.{NextFaults, NextGives}
+use Rattle.bt_ports.specs.Intake.{NextGives, NextStops}
 use Rattle.bt_intake.specs.declared.reader.LineReader.{LineReader}
-use Rattle.bt_intake.specs.Lines.{byte_count, batches}
+use Rattle.bt_intake.specs.Lines.{byte_count, batches, stop}
 use Rattle.bt_intake.specs.Progress.{HasNoFeed, Follows}
-use Rattle.bt_intake.specs.Sources.{all_tell, told, fault_count, SourcesKept}
+use Rattle.bt_intake.specs.Sources.{all_tell, told, SourcesKept}
 use Rattle.bt_intake.specs.Answers.{ReadsLate}
 use Rattle.bt_intake.specs.Reader.{pending, uncut, rest, Stands, Goes, SaysOf, Answers}
 use Rattle.bt_intake.proofs.Cuts.{dropped_all, none_left, stops-end, stops-bound}
-use Rattle.bt_intake.proofs.SourceLists.{sources_kept-same, sources_kept-then, tell-kept, told-kept, rose-kept, rose-count}
+use Rattle.bt_intake.proofs.SourceLists.{sources_kept-same, sources_kept-then, tell-kept, told-kept, rose-kept}
 use Rattle.bt_intake.proofs.Rests.{get-inside, left, rest-at, rest-none_closed}
 
 module _ {S : Type 0} (g : Source.Ghosts S) where
@@ -65,6 +65,9 @@ module _ {S : Type 0} (g : Source.Ghosts S) where
   pub same_batches : (s t : LineReader S) → Goes g s t → IsTrue (all_tell g t.sources.list) → batches t.bound (told g t.sources.list) ≡ batches s.bound (told g s.sources.list)
   same_batches s t a q = ap (λ b. batches b (told g t.sources.list)) a.bound ∙ ap (batches s.bound) (told-kept g s.sources.list t.sources.list a.kept q)
 
+  pub same_stop : (s t : LineReader S) → Goes g s t → IsTrue (all_tell g t.sources.list) → stop s.bound (told g s.sources.list) ≡ stop t.bound (told g t.sources.list)
+  same_stop s t a q = ap (λ b. stop b (told g s.sources.list)) (sym a.bound) ∙ ap (stop t.bound) (sym (told-kept g s.sources.list t.sources.list a.kept q))
+
   all_given : (s t : LineReader S) → Goes g s t → IsTrue (all_tell g t.sources.list) → t.given ≡ s.given → length (batches t.bound (told g t.sources.list)) ≡ t.given → length (batches s.bound (told g s.sources.list)) ≡ s.given
   all_given s t a q e l = ap length (sym (same_batches s t a q)) ∙ l ∙ e
 
@@ -76,13 +79,13 @@ module _ {S : Type 0} (g : Source.Ghosts S) where
   answers-gives next.Bound s t a b q = (b.0, all_given s t a q b.0 (b.1.2 q))
   answers-gives next.NoMemory s t a b q = b
 
-  pub answers-faults : (answer : Next) (s t : LineReader S) → Goes g s t → Answers g answer s t → NextFaults answer (fault_count g s.sources.list) (fault_count g t.sources.list)
-  answers-faults (next.Batch items) s t a b = tt
-  answers-faults next.End s t a b = tt
-  answers-faults next.Failed s t a b = rose-count g s.sources.list t.sources.list a.kept b.1
-  answers-faults (next.LongLine n) s t a b = tt
-  answers-faults next.Bound s t a b = tt
-  answers-faults next.NoMemory s t a b = tt
+  pub answers-ends : (answer : Next) (s t : LineReader S) → Goes g s t → Answers g answer s t → IsTrue (all_tell g t.sources.list) → NextStops answer (stop s.bound (told g s.sources.list)) t.bound
+  answers-ends (next.Batch items) s t a b q = tt
+  answers-ends next.End s t a b q = same_stop s t a q ∙ b.1.1 q
+  answers-ends next.Failed s t a b q = tt
+  answers-ends (next.LongLine n) s t a b q = absurd b
+  answers-ends next.Bound s t a b q = same_stop s t a q ∙ b.1.1 q
+  answers-ends next.NoMemory s t a b q = tt
 
   module _ (s : LineReader S) (stands : Stands g s) (empty : pending s ≡ []) where
     clear_uncut : HasNoFeed (uncut s)

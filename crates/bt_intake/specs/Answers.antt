@@ -4,6 +4,7 @@ use Rattle.bt_ports.specs.declared.outside.Source as Source
 use Rattle.bt_ports.specs.declared.parts.Named.{Named}
 use Rattle.bt_ports.specs.declared.parts.Next.{Next}
 use Rattle.bt_ports.specs.declared.parts.Next.TheVariants as next
+use Rattle.bt_ports.specs.Intake.{input_end, bound_met}
 use Rattle.bt_intake.specs.Lines.{SourceBytes, batches, stop}
 use Rattle.bt_intake.specs.Sources.{all_tell, told, taken_count, OneRose}
 use Rattle.bt_intake.specs.View.{LineView}
@@ -17,10 +18,10 @@ use Rattle.bt_intake.specs.View.{LineView}
 -- LongLine comes never, and NoMemory says nothing.
 abbrev pub Says : Next → (bound taken given : ℕ) → Bool → List SourceBytes → Type 0
 Says (next.Batch items) bound taken given tells ss = ⊥
-Says next.End bound taken given tells ss = (taken < bound) × (IsTrue tells → stop bound ss ≡ next.End) × (IsTrue tells → length (batches bound ss) ≡ given)
+Says next.End bound taken given tells ss = (taken < bound) × (IsTrue tells → stop bound ss ≡ input_end) × (IsTrue tells → length (batches bound ss) ≡ given)
 Says next.Failed bound taken given tells ss = IsTrue tells → length (batches taken ss) ≤ given
 Says (next.LongLine n) bound taken given tells ss = ⊥
-Says next.Bound bound taken given tells ss = (taken ≡ bound) × (IsTrue tells → stop bound ss ≡ next.Bound) × (IsTrue tells → length (batches bound ss) ≡ given)
+Says next.Bound bound taken given tells ss = (taken ≡ bound) × (IsTrue tells → stop bound ss ≡ bound_met bound) × (IsTrue tells → length (batches bound ss) ≡ given)
 Says next.NoMemory bound taken given tells ss = Unit {0}
 
 -- the answer other than a batch is true, where there is one

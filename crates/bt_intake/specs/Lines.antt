@@ -4,8 +4,7 @@ use Rattle.std.specs.Prelude.{ℕ, ◌+◌, ◌-◌, ◌==◌, nat_le, Bool, ◌
 use Rattle.std.specs.List.{slice_split}
 use Rattle.std.specs.Io.BufRead.{strip_last}
 use Rattle.bt_ports.specs.declared.parts.Item.{Item}
-use Rattle.bt_ports.specs.declared.parts.Next.{Next}
-use Rattle.bt_ports.specs.declared.parts.Next.TheVariants as next
+use Rattle.bt_ports.specs.Intake.{InputStop, input_end, bound_met}
 
 -- one source: the path that its items carry, and all its bytes
 pub record SourceBytes : Type 0 where
@@ -55,5 +54,5 @@ abbrev pub batches : ℕ → List SourceBytes → List (List Item)
 batches bound ss = map (λ i. i ∷ []) (items (reaches bound ss) (within bound ss))
 
 -- why the input stops
-abbrev pub stop : ℕ → List SourceBytes → Next
-stop bound ss = (if reaches bound ss then next.Bound else next.End)
+abbrev pub stop : ℕ → List SourceBytes → InputStop
+stop bound ss = (if reaches bound ss then bound_met bound else input_end)

@@ -9,6 +9,7 @@ use Rattle.bt_ports.specs.declared.parts.Next.TheVariants as next
 use Rattle.bt_ports.specs.declared.parts.Read.{Read}
 use Rattle.bt_ports.specs.declared.parts.Read.TheVariants as read
 use Rattle.bt_ports.specs.declared.outside.Source as Source
+use Rattle.bt_ports.specs.Intake.{NextFaults}
 use Rattle.bt_intake.specs.declared.reader.LineReader.{LineReader}
 use Rattle.bt_intake.specs.Lines.{SourceBytes, batches, item}
 use Rattle.bt_intake.specs.Sources.{all_tell, told, taken_count, SourcesKept, OneRose, Ended}
@@ -99,3 +100,8 @@ work s = (s.bound - s.taken) + (length s.sources.list - s.at)
 abbrev pub Steps : {S : Type 0} → Source.Ghosts S → Option Next → LineReader S → LineReader S → Type 0
 Steps g None s t = (t.given ≡ s.given) × (work t < work s)
 Steps g (Some answer) s t = Answers g answer s t
+
+-- one step's faults: those of its answer, and none where it gave none
+abbrev pub StepFaults : Option Next → ℕ → ℕ → Type 0
+StepFaults None before after = after ≡ before
+StepFaults (Some answer) before after = NextFaults answer before after

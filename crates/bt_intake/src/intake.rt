@@ -1,8 +1,8 @@
 //! The lines of some sources as an intake.
-ghost use Rattle.std.specs.Prelude.{◌≡◌, ℕ, ◌+◌, ◌-◌, ◌^◌, ◌<◌, ◌≤◌, IfOk, IfErr, IsTrue, Option, Some, None};
+ghost use Rattle.std.specs.Prelude.{◌≡◌, ℕ, ◌+◌, ◌-◌, ◌^◌, ◌<◌, ◌≤◌, List, [], ◌∷◌, IfOk, IfErr, IsTrue, Option, Some, None};
 ghost use Rattle.std.specs.List.{All};
-ghost use Rattle.bt_ports.specs.Intake.{stop_of, NextFaults, NextLowers, NextGives};
-ghost use Rattle.bt_intake.specs.Lines.{batches};
+ghost use Rattle.bt_ports.specs.Intake.{stop_of, NextFaults, NextLowers, NextGives, NextStops, NextMeets};
+ghost use Rattle.bt_intake.specs.Lines.{batches, stop};
 ghost use Rattle.bt_intake.specs.Sources.{all_tell, told, openings, inputs, fault_count, SourcesKept};
 ghost use Rattle.bt_intake.specs.Answers.{Standing, HasOneItem, FailsWhereOneRose, ReadsLate};
 
@@ -99,6 +99,10 @@ impl<S: Source> Intake for LineIntake<S> {
 
     ghost inputs = { λ i. inputs ⟦<S as Source>⟧ i.sources.list };
 
+    ghost stop = { λ i. stop i.bound (told ⟦<S as Source>⟧ i.sources.list) };
+
+    ghost bounds = { λ i. i.bound ∷ [] };
+
     ghost bound = { λ i. i.bound };
 
     /// Gives the next line as a batch of one item, or says why there is none.
@@ -115,10 +119,13 @@ impl<S: Source> Intake for LineIntake<S> {
         ensures stops { self.new.stopped ≡ stop_of result }
         ensures told { IsTrue (all_tell ⟦<S as Source>⟧ self.new.sources.list) → IsTrue (all_tell ⟦<S as Source>⟧ self.old.sources.list) }
         ensures placed { openings ⟦<S as Source>⟧ self.new.sources.list ≡ openings ⟦<S as Source>⟧ self.old.sources.list }
-        ensures bounded { self.new.bound ≡ self.old.bound }
+        ensures bounded { (self.new.bound ∷ []) ≡ (self.old.bound ∷ []) }
+        ensures meets { NextMeets result (self.old.bound ∷ []) self.old.bound self.new.bound }
         ensures same { IsTrue (all_tell ⟦<S as Source>⟧ self.new.sources.list) → batches self.new.bound (told ⟦<S as Source>⟧ self.new.sources.list) ≡ batches self.old.bound (told ⟦<S as Source>⟧ self.old.sources.list) }
         ensures read { IsTrue (all_tell ⟦<S as Source>⟧ self.new.sources.list) → inputs ⟦<S as Source>⟧ self.new.sources.list ≡ inputs ⟦<S as Source>⟧ self.old.sources.list }
+        ensures stays { IsTrue (all_tell ⟦<S as Source>⟧ self.new.sources.list) → stop self.new.bound (told ⟦<S as Source>⟧ self.new.sources.list) ≡ stop self.old.bound (told ⟦<S as Source>⟧ self.old.sources.list) }
         ensures gives { IsTrue (all_tell ⟦<S as Source>⟧ self.new.sources.list) → NextGives result (batches self.old.bound (told ⟦<S as Source>⟧ self.old.sources.list)) self.old.given self.new.given }
+        ensures ends { IsTrue (all_tell ⟦<S as Source>⟧ self.new.sources.list) → NextStops result (stop self.old.bound (told ⟦<S as Source>⟧ self.old.sources.list)) self.new.bound }
 
         // What this one promises beside.
         ensures one { HasOneItem result }

@@ -2,8 +2,10 @@
 ghost use Rattle.std.specs.Prelude.{◌≡◌, ℕ, ◌+◌, ◌^◌, ◌<◌, ◌≤◌, [], ◌++◌, length, take, IfOk, IfErr, OnOk, OnErr, MatchOption, IsTrue};
 ghost use Rattle.std.specs.List.{All};
 ghost use Rattle.bt_intake.specs.Progress.{HasNoFeed, FeedAt};
-ghost use Rattle.bt_intake.specs.Reader.{pending, uncut, Stands, MakesItem, Gives, ReadsMore, Goes, Steps, Answers, answer_of};
-ghost use Rattle.bt_intake.specs.Sources.{all_tell, SourcesKept, Ended};
+ghost use Rattle.bt_intake.specs.Reader.{pending, uncut, Stands, MakesItem, Gives, ReadsMore, Goes, Steps, StepFaults, Answers, answer_of};
+ghost use Rattle.bt_intake.specs.Sources.{all_tell, fault_count, SourcesKept, Ended};
+ghost use Rattle.bt_ports.specs.Intake.{NextFaults};
+ghost use Rattle.bt_ports.specs.Source.{ReadFaults};
 
 use crate::line::{copy_path, first_line_feed, take_line};
 use crate::reading::{Readable, read_front};
@@ -172,6 +174,7 @@ impl<S: Readable> LineReader<S> {
         ensures kept { SourcesKept S.shown self.old.sources.list self.new.sources.list }
         ensures same { (self.new.bound ≡ self.old.bound) × (self.new.given ≡ self.old.given) × (self.new.at ≡ self.old.at) × (self.new.piece ≡ self.old.piece) }
         ensures reads { ReadsMore S.shown result self.old self.new }
+        ensures faults { ReadFaults result (fault_count S.shown self.old.sources.list) (fault_count S.shown self.new.sources.list) }
     {
         let size = (self.bound - self.taken).min(BUFFER_SIZE as u64) as usize;
         match read_front(&mut self.sources, self.at, &mut self.buffer, size) {
@@ -209,6 +212,7 @@ impl<S: Readable> LineReader<S> {
         ensures stands { Stands S.shown self.new }
         ensures goes { Goes S.shown self.old self.new }
         ensures steps { Steps S.shown result self.old self.new }
+        ensures faults { StepFaults result (fault_count S.shown self.old.sources.list) (fault_count S.shown self.new.sources.list) }
     {
         match self.read_more() {
             Read::Count(_) => None,
@@ -230,6 +234,7 @@ impl<S: Readable> LineReader<S> {
         ensures stands { Stands S.shown self.new }
         ensures goes { Goes S.shown self.old self.new }
         ensures steps { Steps S.shown result self.old self.new }
+        ensures faults { StepFaults result (fault_count S.shown self.old.sources.list) (fault_count S.shown self.new.sources.list) }
     {
         if let Some(n) = self.first_line_feed() {
             return Some(answer(self.give_line(n)));
@@ -253,6 +258,7 @@ impl<S: Readable> LineReader<S> {
         ensures stands { Stands S.shown self.new }
         ensures goes { Goes S.shown self.old self.new }
         ensures answers { Answers S.shown result self.old self.new }
+        ensures faults { NextFaults result (fault_count S.shown self.old.sources.list) (fault_count S.shown self.new.sources.list) }
     {
         'steps: loop {
             if let Some(answer) = self.step() {

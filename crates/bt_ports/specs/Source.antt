@@ -10,14 +10,14 @@ ReadFits (Count n) room = (1 ≤ n) × (n ≤ room)
 ReadFits End room = Unit {0}
 ReadFits Failed room = Unit {0}
 
--- a read fails only where the count of faults rose
+-- a read fails only where the count of faults rose, and one that doesn't fail leaves the count as it was
 abbrev pub ReadFaults : Read → ℕ → ℕ → Type 0
-ReadFaults (Count n) before after = Unit {0}
-ReadFaults End before after = Unit {0}
+ReadFaults (Count n) before after = after ≡ before
+ReadFaults End before after = after ≡ before
 ReadFaults Failed before after = Rose before after
 
 -- what a read takes of the bytes, of which `old` were taken before it and `new` after it: a count gives the next
--- bytes at the front of the buffer, the end comes only where none is left, and neither it nor a failure takes any
+-- bytes at the beginning of the buffer, the end comes only where none is left, and neither it nor a failure takes any
 abbrev pub ReadTakes : Read → List ℕ → ℕ → ℕ → List ℕ → Type 0
 ReadTakes (Count n) bytes old new buffer = (new ≡ old + n) × (old + n ≤ length bytes) × (take n buffer ≡ take n (drop old bytes))
 ReadTakes End bytes old new buffer = (new ≡ old) × (length bytes ≤ old)

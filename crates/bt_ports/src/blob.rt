@@ -2,7 +2,7 @@
 ghost use Rattle.std.specs.Prelude.{◌≡◌, [], ◌++◌, OnOk, OnErr, IfOk};
 
 use crate::NoMemory;
-use std::alloc::Global;
+use std::alloc::{AllocError, Global};
 use std::marker::Model;
 
 /// A run of bytes, which contracts see as a list of bytes.
@@ -19,6 +19,18 @@ impl Model for Blob {
     ghost view = { λ a. a.vec.items };
 }
 
+impl Clone for Blob {
+    ghost is_clone = { λ s t. t ≡ s };
+
+    ghost use Rattle.std.specs.Prelude.{◌≡◌};
+
+    fn clone(&self) -> Result<Blob, AllocError> {
+        Ok(Blob {
+            vec: self.vec.clone()?,
+        })
+    }
+}
+
 impl Blob {
     /// No bytes. It takes no memory.
     pub fn new(alloc: Global) -> Blob
@@ -33,10 +45,9 @@ impl Blob {
     pub fn make(alloc: Global, b: &[u8]) -> Result<Blob, NoMemory>
         ensures { IfOk result (λ t. t ≡ b.now) }
     {
-        match Vec::from_slice(alloc, b) {
-            Ok(vec) => Ok(Blob { vec }),
-            Err(_) => Err(NoMemory),
-        }
+        Ok(Blob {
+            vec: Vec::from_slice(alloc, b)?,
+        })
     }
 
     /// The bytes of the vector. It takes no memory.
@@ -66,9 +77,7 @@ impl Blob {
         ensures ok { OnOk result (self.new ≡ self.old ++ b.now) }
         ensures err { OnErr result (self.new ≡ self.old) }
     {
-        match self.vec.extend_from_slice(b) {
-            Ok(()) => Ok(()),
-            Err(_) => Err(NoMemory),
-        }
+        self.vec.extend_from_slice(b)?;
+        Ok(())
     }
 }

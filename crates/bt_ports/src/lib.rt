@@ -11,13 +11,32 @@ pub mod origins;
 pub mod outside;
 pub mod parts;
 pub mod sequence;
-#[cfg(test)]
-mod tests;
 pub mod text;
 pub mod world;
 
+use std::alloc::{AllocError, AllocFailed};
+
 /// Memory was wanted and there was none.
 ///
-/// It is the one answer that no contract ties to a cause.
+/// It is the one answer that no contract ties to a cause. `?` makes it of the allocator's errors, and of a `push` whose
+/// member is dropped.
 #[derive(Clone, Copy, Debug, PartialEq, Eq)]
 pub struct NoMemory;
+
+impl From<AllocError> for NoMemory {
+    fn from(_: AllocError) -> NoMemory {
+        NoMemory
+    }
+}
+
+impl<T: Drop> From<AllocFailed<T>> for NoMemory {
+    fn from(_: AllocFailed<T>) -> NoMemory {
+        NoMemory
+    }
+}
+
+impl<T: Drop> From<(NoMemory, T)> for NoMemory {
+    fn from(_: (NoMemory, T)) -> NoMemory {
+        NoMemory
+    }
+}

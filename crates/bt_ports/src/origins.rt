@@ -31,10 +31,8 @@ impl Origins {
     pub fn make(alloc: Global, number: u64) -> Result<Origins, NoMemory>
         ensures { IfOk result (λ o. o ≡ number ∷ []) }
     {
-        match Vec::from_slice(alloc, &[number]) {
-            Ok(numbers) => Ok(Origins { alloc, numbers }),
-            Err(_) => Err(NoMemory),
-        }
+        let numbers = Vec::from_slice(alloc, &[number])?;
+        Ok(Origins { alloc, numbers })
     }
 
     /// How many numbers there are.
@@ -92,18 +90,12 @@ fn add(alloc: Global, numbers: &mut Vec<u64>, others: &[u64]) -> Result<(), NoMe
     ensures err { OnErr result (numbers.new.items ≡ numbers.old.items) }
 {
     if numbers[numbers.len() - 1] < others[0] {
-        return match numbers.extend_from_slice(others) {
-            Ok(()) => Ok(()),
-            Err(_) => Err(NoMemory),
-        };
+        numbers.extend_from_slice(others)?;
+        return Ok(());
     }
-    match merge(alloc, numbers.as_slice(), others) {
-        Ok(merged) => {
-            *numbers = merged;
-            Ok(())
-        }
-        Err(_) => Err(NoMemory),
-    }
+    let merged = merge(alloc, numbers.as_slice(), others)?;
+    *numbers = merged;
+    Ok(())
 }
 
 // The numbers of two rising lists in order, where a number that both have comes once.

@@ -69,7 +69,7 @@ pub type AnswerCalls = Sequence<AnswerCall>;
 /// What a read of a source gives.
 #[derive(Clone, Copy, Debug, PartialEq, Eq)]
 pub enum Read {
-    /// So many bytes at the front of the buffer.
+    /// So many bytes at the beginning of the buffer.
     Count(usize),
     End,
     Failed,

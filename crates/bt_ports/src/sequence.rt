@@ -119,10 +119,8 @@ impl<T> Sequence<T> {
         ensures list { self.new.list ≡ self.old.list }
         ensures spare { self.old.spare ≤ self.new.spare }
     {
-        match self.vec.reserve(n) {
-            Ok(()) => Ok(()),
-            Err(_) => Err(NoMemory),
-        }
+        self.vec.reserve(n)?;
+        Ok(())
     }
 
     /// Puts `x` at the end, into room that is there. It takes no memory.

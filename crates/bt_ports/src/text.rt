@@ -2,7 +2,7 @@
 ghost use Rattle.std.specs.Prelude.{◌≡◌, [], ◌++◌, OnOk, OnErr, IfOk, string_bytes};
 
 use crate::NoMemory;
-use std::alloc::Global;
+use std::alloc::{AllocError, Global};
 use std::marker::Model;
 
 /// A text, which contracts see as the list of its bytes in UTF-8.
@@ -19,6 +19,18 @@ impl Model for Text {
     ghost view = { λ a. string_bytes a.string };
 }
 
+impl Clone for Text {
+    ghost is_clone = { λ s t. t ≡ s };
+
+    ghost use Rattle.std.specs.Prelude.{◌≡◌};
+
+    fn clone(&self) -> Result<Text, AllocError> {
+        Ok(Text {
+            string: self.string.clone()?,
+        })
+    }
+}
+
 impl Text {
     /// The empty text. It takes no memory.
     pub fn new(alloc: Global) -> Text
@@ -33,10 +45,9 @@ impl Text {
     pub fn make(alloc: Global, s: &str) -> Result<Text, NoMemory>
         ensures { IfOk result (λ t. t ≡ s.now) }
     {
-        match String::from_str(alloc, s) {
-            Ok(string) => Ok(Text { string }),
-            Err(_) => Err(NoMemory),
-        }
+        Ok(Text {
+            string: String::from_str(alloc, s)?,
+        })
     }
 
     /// The text of the string. It takes no memory.
@@ -66,9 +77,7 @@ impl Text {
         ensures ok { OnOk result (self.new ≡ self.old ++ s.now) }
         ensures err { OnErr result (self.new ≡ self.old) }
     {
-        match self.string.push_str(s) {
-            Ok(()) => Ok(()),
-            Err(_) => Err(NoMemory),
-        }
+        self.string.push_str(s)?;
+        Ok(())
     }
 }

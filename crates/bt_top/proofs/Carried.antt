@@ -4,6 +4,7 @@ use Rattle.std.specs.List.{list_all}
 use Rattle.bt_ports.specs.declared.outside.Source as Source
 use Rattle.bt_ports.specs.declared.outside.Sink as Sink
 use Rattle.bt_ports.specs.declared.outside.Answerer as Answerer
+use Rattle.bt_ports.specs.declared.outside.Clock as Clock
 use Rattle.bt_ports.specs.declared.outside.Intake as Intake
 use Rattle.bt_ports.specs.declared.parts.Item.{Item}
 use Rattle.bt_ports.specs.declared.parts.Named.{Named}
@@ -95,7 +96,7 @@ stop-says : (s : Option Next) (bound bound' taken taken' given : ℕ) (tells tel
 stop-says s bound bound' taken taken' given tells tells' ss ss' p q r u says = rw (sym p, sym q, sym r, sym u) says
 
 -- a desk that began over what was opened and was carried to its end. The intake tells what its sources do
-module _ {S K A C : Type 0} (gs : Source.Ghosts S) (gk : Sink.Ghosts K) (ga : Answerer.Ghosts A) (gi : Intake.Ghosts (LineView S))
+module _ {S K A C : Type 0} (gs : Source.Ghosts S) (gk : Sink.Ghosts K) (ga : Answerer.Ghosts A) (gc : Clock.Ghosts C) (gi : Intake.Ghosts (LineView S))
     (tells-is : (i : LineView S) → gi.tells i ≡ all_tell gs i.sources.list)
     (batches-is : (i : LineView S) → gi.batches i ≡ batches i.bound (told gs i.sources.list))
     (given-is : (i : LineView S) → gi.given i ≡ i.given)
@@ -103,9 +104,9 @@ module _ {S K A C : Type 0} (gs : Source.Ghosts S) (gk : Sink.Ghosts K) (ga : An
     (faults-is : (i : LineView S) → gi.faults i ≡ fault_count gs i.sources.list)
     (openings-is : (i : LineView S) → gi.openings i ≡ openings gs i.sources.list)
     (inputs-is : (i : LineView S) → gi.inputs i ≡ inputs gs i.sources.list)
-    (bound-is : (i : LineView S) → gi.bound i ≡ i.bound)
-    (o : Opening S K A) (c : C) (d e : DeskView (LineView S) K A C) (b : Begun o c d) (r : SameRun gi d e) (p : SamePlaces gk ga d e)
-    (idle : e.out ≡ []) (ended : IsSome e.report.ending) (i : Standing gs e.intake) (h : List (List Settled)) (st : StandsWith gi gk ga e h) where
+    (bounds-is : (i : LineView S) → gi.bounds i ≡ i.bound ∷ [])
+    (o : Opening S K A) (c : C) (d e : DeskView (LineView S) K A C) (b : Begun o c d) (r : SameRun gi gc d e) (p : SamePlaces gk ga d e)
+    (idle : e.out ≡ []) (ended : IsSome e.report.ending) (i : Standing gs e.intake) (h : List (List Settled)) (st : StandsWith gi gk ga gc e h) where
   source : (s : S) × (e.intake.sources.list ≡ record { path = None; source = s } ∷ []) × (gs.place s ≡ gs.place o.source)
   source = one-source gs e.intake.sources.list None (gs.place o.source) (sym (openings-is e.intake) ∙ r.openings ∙ openings-is d.intake ∙ ap (openings gs) b.intake.0)
 
@@ -116,7 +117,10 @@ module _ {S K A C : Type 0} (gs : Source.Ghosts S) (gk : Sink.Ghosts K) (ga : An
   first_sink = ap (λ ks. slice_get ks 0) sink.1
 
   bound : e.intake.bound ≡ input_bound
-  bound = sym (bound-is e.intake) ∙ r.bound ∙ bound-is d.intake ∙ b.intake.1
+  bound =
+      let same : e.intake.bound ∷ [] ≡ d.intake.bound ∷ [] = sym (bounds-is e.intake) ∙ r.bounds ∙ bounds-is d.intake in
+      let is : e.intake.bound ≡ d.intake.bound = cc in
+      is ∙ b.intake.1
 
   count : length h ≡ e.report.taken
   count = let none : length e.out ≡ 0 = ap length idle in omega (arith, st.taken, none)

@@ -3,6 +3,7 @@ use Rattle.std.proofs.Common.{List, slice_get, ap, ◌∙◌, sym}
 use Rattle.bt_ports.specs.declared.outside.Intake as Intake
 use Rattle.bt_ports.specs.declared.outside.Sink as Sink
 use Rattle.bt_ports.specs.declared.outside.Answerer as Answerer
+use Rattle.bt_ports.specs.declared.outside.Clock as Clock
 use Rattle.bt_ports.specs.declared.parts.Txn.{Txn}
 use Rattle.bt_desk.specs.DeskView.{DeskView}
 use Rattle.bt_desk.specs.Calls.{SameRun, OnlyAdmits, Delivers}
@@ -10,14 +11,17 @@ use Rattle.bt_desk.specs.History.{Settled}
 use Rattle.bt_top.specs.Carries.{SamePlaces}
 
 module _ {I K A C : Type 0} where
-  pub same_run-then : (g : Intake.Ghosts I) (d e f : DeskView I K A C) → SameRun g d e → SameRun g e f → SameRun g d f
-  same_run-then g d e f p q = record {
+  pub same_run-then : (g : Intake.Ghosts I) (gc : Clock.Ghosts C) (d e f : DeskView I K A C) → SameRun g gc d e → SameRun g gc e f → SameRun g gc d f
+  same_run-then g gc d e f p q = record {
     told = λ t. p.told (q.told t);
     openings = q.openings ∙ p.openings;
-    bound = q.bound ∙ p.bound;
+    bounds = q.bounds ∙ p.bounds;
     inputs = λ t. q.inputs t ∙ p.inputs (q.told t);
     batches = λ t. q.batches t ∙ p.batches (q.told t);
+    stop = λ t. q.stop t ∙ p.stop (q.told t);
     before = λ t. q.before t ∙ p.before (q.told t);
+    clock_told = λ t. p.clock_told (q.clock_told t);
+    readings = λ t. q.readings t ∙ p.readings (q.clock_told t);
   }
 
   -- an admission and a delivery leave the places

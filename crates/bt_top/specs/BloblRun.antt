@@ -6,7 +6,7 @@ use Rattle.bt_ports.specs.World.{Tale, once_more}
 use Rattle.bt_ports.specs.declared.outside.Source as Source
 use Rattle.bt_ports.specs.declared.parts.Asked.{Asked}
 use Rattle.bt_ports.specs.declared.parts.Named.{Named}
-use Rattle.bt_ports.specs.declared.parts.Next.TheVariants as next
+use Rattle.bt_ports.specs.Intake.{input_end, bound_met}
 use Rattle.bt_intake.specs.Lines.{batches, stop}
 use Rattle.bt_intake.specs.View.{LineView}
 use Rattle.bt_syntax.specs.Built.{BuiltReading}
@@ -80,10 +80,10 @@ BloblCounts (course.Mapped pass) opens opens' prints prints' = pass.stop ≡ sto
 -- at a read fault the source counted one, and every line whose line feed was taken is among the mapped ones;
 -- at a failed print the next line is the one whose outcome wasn't printed whole
 abbrev pub StopsSo : Stop → List (List ℕ) → List ℕ → (faults taken : ℕ) → List ℕ → Type 0
-StopsSo stops.Ended done line faults taken bytes = (done ≡ lines_of bytes) × (stop input_bound (input_of bytes) ≡ next.End)
+StopsSo stops.Ended done line faults taken bytes = (done ≡ lines_of bytes) × (stop input_bound (input_of bytes) ≡ input_end)
 StopsSo stops.ReadFault done line faults taken bytes = (1 ≤ faults) × (length (batches taken (input_of bytes)) ≤ length done)
 StopsSo (stops.LongLine n) done line faults taken bytes = ⊥
-StopsSo stops.Bound done line faults taken bytes = (done ≡ lines_of bytes) × (stop input_bound (input_of bytes) ≡ next.Bound) × (taken ≡ input_bound)
+StopsSo stops.Bound done line faults taken bytes = (done ≡ lines_of bytes) × (stop input_bound (input_of bytes) ≡ bound_met input_bound) × (taken ≡ input_bound)
 StopsSo stops.PrintFailed done line faults taken bytes = slice_get (lines_of bytes) (length done) ≡ Some line
 StopsSo stops.NoMemory done line faults taken bytes = Unit {0}
 

@@ -5,7 +5,7 @@ use Rattle.bt_ports.specs.declared.outside.Source as Source
 use Rattle.bt_ports.specs.declared.outside.Sink as Sink
 use Rattle.bt_ports.specs.declared.outside.Answerer as Answerer
 use Rattle.bt_ports.specs.declared.parts.Ends.{Ends}
-use Rattle.bt_ports.specs.declared.parts.Next.TheVariants as next
+use Rattle.bt_ports.specs.Intake.{input_end, bound_met}
 use Rattle.bt_desk.specs.History.{Settled, numbered, items_of, accepted_records, refused_records, answers, was_refused, has_failed_answer, records_of, acks_of}
 use Rattle.bt_desk.specs.Stands.{report_of}
 use Rattle.bt_desk.specs.declared.report.Ending.{Ending}
@@ -23,10 +23,10 @@ use Rattle.bt_top.specs.declared.openings.Opening.{Opening}
 -- at a read fault the source counted one, and every line whose line feed was taken is among the taken ones
 abbrev pub EndsSo : Option Ending → (count faults taken : ℕ) → List ℕ → Type 0
 EndsSo None count faults taken bytes = ⊥
-EndsSo (Some ending.Ended) count faults taken bytes = (count ≡ length (transactions bytes)) × (stop input_bound (input_of bytes) ≡ next.End)
+EndsSo (Some ending.Ended) count faults taken bytes = (count ≡ length (transactions bytes)) × (stop input_bound (input_of bytes) ≡ input_end)
 EndsSo (Some ending.ReadFault) count faults taken bytes = (1 ≤ faults) × (length (batches taken (input_of bytes)) ≤ count)
 EndsSo (Some (ending.LongLine n)) count faults taken bytes = ⊥
-EndsSo (Some ending.Bound) count faults taken bytes = (count ≡ length (transactions bytes)) × (stop input_bound (input_of bytes) ≡ next.Bound) × (taken ≡ input_bound)
+EndsSo (Some ending.Bound) count faults taken bytes = (count ≡ length (transactions bytes)) × (stop input_bound (input_of bytes) ≡ bound_met input_bound) × (taken ≡ input_bound)
 EndsSo (Some ending.NoMemory) count faults taken bytes = Unit {0}
 
 -- what a run with this history of taken transactions leaves, where the objects tell

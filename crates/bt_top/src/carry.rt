@@ -15,9 +15,9 @@ pub(crate) fn carry<I: Intake, K: Sink, A: Answerer, C: Clock>(desk: &mut Desk<I
     ensures idle { desk.new.out ≡ [] }
     ensures ended { IsSome desk.new.report.ending }
     ensures finished { desk.new.finished ≡ true }
-    ensures run { SameRun ⟦<I as Intake>⟧ desk.old desk.new }
+    ensures run { SameRun ⟦<I as Intake>⟧ ⟦<C as Clock>⟧ desk.old desk.new }
     ensures places { SamePlaces ⟦<K as Sink>⟧ ⟦<A as Answerer>⟧ desk.old desk.new }
-    ensures stands { Stands ⟦<I as Intake>⟧ ⟦<K as Sink>⟧ ⟦<A as Answerer>⟧ desk.new }
+    ensures stands { Stands ⟦<I as Intake>⟧ ⟦<K as Sink>⟧ ⟦<A as Answerer>⟧ ⟦<C as Clock>⟧ desk.new }
 {
     'carry: while let Admit::Job(txn) = desk.admit() {
         desk.deliver(txn);

@@ -1,6 +1,7 @@
 //! A run of one configuration with one worker.
 ghost use Rattle.std.specs.Prelude.{◌≡◌, ℕ, ◌+◌, ◌≤◌, List, [], ◌∷◌, ◌++◌, length, Option, Some, None, IfOk, IfErr, OnOk, IsTrue, option_map, true};
 ghost use Rattle.bt_ports.specs.World.{StillTells, once_more};
+ghost use Rattle.bt_desk.specs.Calls.{IsUnread};
 ghost use Rattle.bt_desk.specs.Stands.{Stands};
 ghost use Rattle.bt_intake.specs.Answers.{Standing};
 ghost use Rattle.bt_top.specs.Begin.{IsFresh, Begun, IsBegun, Started, StopsAt};
@@ -44,7 +45,8 @@ fn begin<S: Source, K: Sink, A: Answerer, C: Clock>(
     opening: Opening<S, K, A>,
     clock: C,
 ) -> Result<Desk<LineIntake<S>, K, A, C>, NoMemory>
-    requires { IsFresh ⟦<S as Source>⟧ ⟦<K as Sink>⟧ ⟦<A as Answerer>⟧ opening }
+    requires fresh { IsFresh ⟦<S as Source>⟧ ⟦<K as Sink>⟧ ⟦<A as Answerer>⟧ opening }
+    requires unread { IsUnread ⟦<C as Clock>⟧ clock }
     ensures { IfOk result (Begun opening clock) }
 {
     let Opening {
@@ -106,7 +108,7 @@ fn hand_back<W: World>(desk: Desk<LineIntake<W::S>, W::K, W::A, W::C>, world: &m
     ensures steady { (W.file_faults world.new ≡ W.file_faults world.old) × (W.open_faults world.new ≡ W.open_faults world.old) }
     ensures keeps { IsTrue (W.tells world.new) → W.tale world.new ≡ record (W.tale world.old) { keeps = once_more (W.tale world.old).keeps; kept = Some (record { sources = desk.intake.sources; sinks = desk.sinks; answerer = desk.answerer; clock = desk.clock }) } }
     ensures standing { Standing ⟦<W::S as Source>⟧ desk.intake }
-    ensures stands { Stands ⟦<LineIntake<W::S> as Intake>⟧ ⟦<W::K as Sink>⟧ ⟦<W::A as Answerer>⟧ desk }
+    ensures stands { Stands ⟦<LineIntake<W::S> as Intake>⟧ ⟦<W::K as Sink>⟧ ⟦<W::A as Answerer>⟧ ⟦<W::C as Clock>⟧ desk }
 {
     let Parts {
         intake,

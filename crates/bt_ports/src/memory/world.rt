@@ -136,15 +136,13 @@ fn ask(
         None => None,
         Some(b) => Some(Blob::make(alloc, b)?),
     };
-    match calls.push(Asked {
+    calls.push(Asked {
         what,
         name,
         failed,
         end,
-    }) {
-        Ok(()) => Ok(calls.len() as u64),
-        Err(_) => Err(NoMemory),
-    }
+    })?;
+    Ok(calls.len() as u64)
 }
 
 // The bytes of the first file of that name.
@@ -165,8 +163,8 @@ fn failing_puts(alloc: Global, sinks: &[SinkCall], name: &str) -> Result<Calls, 
 {
     let mut calls = Sequence::new(alloc);
     for sink in sinks {
-        if sink.name.as_str() == name && calls.push(sink.call).is_err() {
-            return Err(NoMemory);
+        if sink.name.as_str() == name {
+            calls.push(sink.call)?;
         }
     }
     Ok(calls)
@@ -178,9 +176,7 @@ fn copy(alloc: Global, numbers: &[u64]) -> Result<Calls, NoMemory>
 {
     let mut calls = Sequence::new(alloc);
     for number in numbers {
-        if calls.push(*number).is_err() {
-            return Err(NoMemory);
-        }
+        calls.push(*number)?;
     }
     Ok(calls)
 }

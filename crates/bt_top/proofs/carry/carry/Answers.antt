@@ -9,6 +9,6 @@ carry-preserved g c =
     record {
       out = delivered.1.out;
       goes = ap (λ r. r.ending) delivered.1.settles.report ∙ ap (λ r. r.ending) took.report ∙ c.carry.invariant.goes;
-      run = same_run-then _ _ _ _ (same_run-then _ _ _ _ c.carry.invariant.run c.in-Job.ensures.run) c.deliver.ensures.run;
+      run = same_run-then _ _ _ _ _ (same_run-then _ _ _ _ _ c.carry.invariant.run c.in-Job.ensures.run) c.deliver.ensures.run;
       places = same_places-then g.I.Intake _ _ _ _ _ _ _ _ c.carry.invariant.places c.in-Job.ensures.only delivered.1;
     }

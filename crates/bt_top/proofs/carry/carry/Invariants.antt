@@ -7,7 +7,7 @@ abbrev pub invariant-carry : goal.invariant-carry
 invariant-carry g l = record {
   out : l.desk.out ≡ [];
   goes : l.desk.report.ending ≡ None;
-  run : SameRun g.I.Intake l.initial.desk l.desk;
+  run : SameRun g.I.Intake g.C.Clock l.initial.desk l.desk;
   places : SamePlaces g.K.Sink g.A.Answerer l.initial.desk l.desk;
 }
 

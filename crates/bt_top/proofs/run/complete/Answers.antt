@@ -10,6 +10,6 @@ returns-clause-keeps g c = λ t.
       ends = _;
       keeps = c.hand_back.ensures.keeps t;
       carried = λ o clock begun.
-          carried-copy g.W.S.Source g.W.K.Sink g.W.A.Answerer _ (λ i. refl) (λ i. refl) (λ i. refl) (λ i. refl) (λ i. refl) (λ i. refl) (λ i. refl) (λ i. refl) o clock _
+          carried-copy g.W.S.Source g.W.K.Sink g.W.A.Answerer g.W.C.Clock _ (λ i. refl) (λ i. refl) (λ i. refl) (λ i. refl) (λ i. refl) (λ i. refl) (λ i. refl) (λ i. refl) o clock _
           c.carry.new.desk begun ran.run ran.places ran.idle ran.ended c.hand_back.ensures.standing stands.0 stands.1 c.report-report.result c.report-report.ensures.report;
     }

@@ -1,4 +1,5 @@
 use Rattle.std.proofs.Common.{◌≡◌, ◌-◌, ◌+◌, ℕ, List, [], ◌∷◌, ◌++◌, length, ap, ◌∙◌, arith, refl}
+use Rattle.bt_ports.specs.Clock.{reading_at}
 use Rattle.bt_desk.specs.declared.report.Out.{Out}
 use Rattle.bt_desk.proofs.Admitting.{Answered, stands-ended, next_of_run, batch-lowers}
 use Rattle.bt_desk.proofs.desk.Desk.admit.Given.{Over}
@@ -20,7 +21,9 @@ asked g c = record {
   stops = c.next.ensures.stops;
   told = c.next.ensures.told;
   same = c.next.ensures.same;
+  stays = c.next.ensures.stays;
   gives = c.next.ensures.gives;
+  ends = c.next.ensures.ends;
 }
 
 -- the one transaction that is out
@@ -33,7 +36,7 @@ one_out g c =
 pub invariant_of-self-in-Err : goal.invariant_of-self-in-Err
 invariant_of-self-in-Err g c = record {
   room = c.self.invariant.room;
-  stands = (c.self.invariant.stands.0, stands-ended g.I.Intake g.K.Sink g.A.Answerer _ c.next.new.self c.next.result (asked g (goal.at.invariant_of-self-in-Err g c).After-batch_of) _ c.self.invariant.stands.1 c.in-Err.ending c.in-Err.ensures.ending);
+  stands = (c.self.invariant.stands.0, stands-ended g.I.Intake g.K.Sink g.A.Answerer g.C.Clock _ c.next.new.self c.next.result (asked g (goal.at.invariant_of-self-in-Err g c).After-batch_of) _ c.self.invariant.stands.1 c.in-Err.ending c.in-Err.ensures.ending);
 }
 
 pub returns-in-Ok-clause-admits : goal.returns-in-Ok-clause-admits
@@ -44,17 +47,14 @@ returns-in-Ok-clause-admits g c = rw (← c.self.view_is) (record {
     few = (batch-lowers c.next.result c.in-Ok.items _ _ c.in-Ok.ensures.batch c.next.ensures.lowers).1;
     batch = λ t.
         let last : (c.self.inside.report.taken + 1) - 1 ≡ c.self.inside.report.taken = omega arith in
-        rw last (next_of_run g.I.Intake g.K.Sink g.A.Answerer _ c.next.new.self c.next.result (asked g (goal.at.returns-in-Ok-clause-admits g c).After-batch_of) _ c.self.invariant.stands.1 c.in-Ok.items c.in-Ok.ensures.batch t);
+        rw last (next_of_run g.I.Intake g.K.Sink g.A.Answerer g.C.Clock _ c.next.new.self c.next.result (asked g (goal.at.returns-in-Ok-clause-admits g c).After-batch_of) _ c.self.invariant.stands.1 c.in-Ok.items c.in-Ok.ensures.batch t);
   };
   report = refl;
   some = (batch-lowers c.next.result c.in-Ok.items _ _ c.in-Ok.ensures.batch c.next.ensures.lowers).0;
   left = (batch-lowers c.next.result c.in-Ok.items _ _ c.in-Ok.ensures.batch c.next.ensures.lowers).2;
-  moment = c.now-moment.ensures.reads;
-  told = c.now-moment.ensures.told;
-  readings = c.now-moment.ensures.same;
-  counts = c.now-moment.ensures.counts;
+  moment = λ t. c.now-moment.ensures.reads t ∙ ap (reading_at (g.C.Clock.readings c.self.inside.clock)) (c.self.invariant.stands.1.read (c.now-moment.ensures.told t));
 })
 
 pub returns-in-Err-clause-stands : goal.returns-in-Err-clause-stands
 returns-in-Err-clause-stands g c =
-    (c.self.invariant.stands.0, stands-ended g.I.Intake g.K.Sink g.A.Answerer _ c.next.new.self c.next.result (asked g (goal.at.returns-in-Err-clause-stands g c).After-batch_of) _ c.self.invariant.stands.1 c.in-Err.ending c.in-Err.ensures.ending)
+    (c.self.invariant.stands.0, stands-ended g.I.Intake g.K.Sink g.A.Answerer g.C.Clock _ c.next.new.self c.next.result (asked g (goal.at.returns-in-Err-clause-stands g c).After-batch_of) _ c.self.invariant.stands.1 c.in-Err.ending c.in-Err.ensures.ending)

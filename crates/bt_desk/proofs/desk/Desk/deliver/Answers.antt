@@ -23,7 +23,7 @@ returns-clause-delivers g c =
     )
 
 -- the desk stands with the transaction at the end of its history
-after : (g : Over) (c : After-clear g) → Stands g.I.Intake g.K.Sink g.A.Answerer (record {
+after : (g : Over) (c : After-clear g) → Stands g.I.Intake g.K.Sink g.A.Answerer g.C.Clock (record {
   intake = c.self.inside.intake;
   sinks = c.settle.new.sinks;
   answerer = c.settle.new.answerer;
@@ -37,7 +37,7 @@ after g c =
     let p = c.settle.ensures.settles.1 in
     let last = rw (← c.self.view_is) at c.requires.out in (
       was.0 ++ c.settle.ensures.settles.0 ∷ [],
-      stands-after g.I.Intake g.K.Sink g.A.Answerer _ was.0 was.1 c.args.txn.number c.args.txn.items.list last.out last.number last.batch c.settle.new.sinks c.settle.new.answerer c.settle.ensures.settles.0
+      stands-after g.I.Intake g.K.Sink g.A.Answerer g.C.Clock _ was.0 was.1 c.args.txn.number c.args.txn.items.list last.out last.number last.batch c.settle.new.sinks c.settle.new.answerer c.settle.ensures.settles.0
           c.settle.ensures.one_sink (p.items ∙ c.as_slice.ensures) p.puts p.answers c.clear.new.self.items c.settle.new.report c.clear.ensures.items p.report,
     )
 

@@ -6,7 +6,7 @@ use Rattle.bt_desk.proofs.desk.Desk.make.Goals as goal
 use Rattle.bt_desk.proofs.desk.Desk.make.Goals.{After-new}
 
 -- the desk stands with an empty history
-begun : (g : Over) (c : After-new g) → Stands g.I.Intake g.K.Sink g.A.Answerer (record {
+begun : (g : Over) (c : After-new g) → Stands g.I.Intake g.K.Sink g.A.Answerer g.C.Clock (record {
   intake = c.args.parts.intake;
   sinks = c.args.parts.sinks;
   answerer = c.args.parts.answerer;
@@ -17,8 +17,8 @@ begun : (g : Over) (c : After-new g) → Stands g.I.Intake g.K.Sink g.A.Answerer
 })
 begun g c = (
   [],
-  stands-begun g.I.Intake g.K.Sink g.A.Answerer c.args.parts.intake c.args.parts.sinks c.args.parts.answerer c.args.parts.clock
-      c.requires.one_sink c.requires.goes c.requires.few c.requires.unwritten c.requires.unanswered c.in-Ok.out.items c.new.result c.in-Ok.ensures.items c.new.ensures,
+  stands-begun g.I.Intake g.K.Sink g.A.Answerer g.C.Clock c.args.parts.intake c.args.parts.sinks c.args.parts.answerer c.args.parts.clock
+      c.requires.one_sink c.requires.goes c.requires.few c.requires.unwritten c.requires.unanswered c.requires.unread c.in-Ok.out.items c.new.result c.in-Ok.ensures.items c.new.ensures,
 )
 
 pub invariant_of-result : goal.invariant_of-result

@@ -1,4 +1,6 @@
-use Rattle.std.proofs.Common.{refl, ◌∙◌}
+use Rattle.std.proofs.Common.{refl, ◌∙◌, subst}
+use Rattle.bt_ports.specs.Intake.{NextFaults}
+use Rattle.bt_intake.specs.Sources.{fault_count}
 use Rattle.bt_intake.proofs.Turns.{goes-still, goes-then, answers-then}
 use Rattle.bt_intake.proofs.reader.LineReader.next.Goals as goal
 
@@ -7,6 +9,7 @@ steps-init g c = record {
   stands = c.requires.stands;
   goes = goes-still g.S.Readable.shown c.args.self.now c.args.self.now refl refl refl;
   given = refl;
+  faults = refl;
 }
 
 pub steps-preserved : goal.steps-preserved
@@ -17,6 +20,7 @@ steps-preserved g c =
       stands = e.stands;
       goes = goes-then g.S.Readable.shown c.args.self.now c.steps.self c.step.new.self i.given i.goes e.goes;
       given = e.steps.0 ∙ i.given;
+      faults = e.faults ∙ i.faults;
     }
 
 pub returns-in-Some-clause-goes : goal.returns-in-Some-clause-goes
@@ -28,3 +32,8 @@ pub returns-in-Some-clause-answers : goal.returns-in-Some-clause-answers
 returns-in-Some-clause-answers g c =
     let i = c.steps.invariant in
     answers-then g.S.Readable.shown c.in-Some.answer c.args.self.now c.steps.self c.step.new.self i.given i.goes c.in-Some.ensures.steps
+
+pub returns-in-Some-clause-faults : goal.returns-in-Some-clause-faults
+returns-in-Some-clause-faults g c =
+    let i = c.steps.invariant in
+    subst (λ n. NextFaults c.in-Some.answer n (fault_count g.S.Readable.shown c.step.new.self.sources.list)) i.faults c.in-Some.ensures.faults

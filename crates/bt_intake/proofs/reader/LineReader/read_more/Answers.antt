@@ -1,7 +1,7 @@
-use Rattle.std.proofs.Common.{length, refl, sym, ap, subst, arith}
-use Rattle.bt_intake.specs.Sources.{OneRose}
+use Rattle.std.proofs.Common.{◌≡◌, length, refl, sym, ap, subst, arith}
+use Rattle.bt_intake.specs.Sources.{OneRose, fault_count}
 use Rattle.bt_intake.proofs.Steps.{read-kept, stands-quiet, stands-more, no_bytes, read_found, read_tells}
-use Rattle.bt_intake.proofs.SourceLists.{rose-slice_set}
+use Rattle.bt_intake.proofs.SourceLists.{rose-slice_set, rose-count, faults-slice_set}
 use Rattle.bt_intake.proofs.reader.LineReader.read_more.Goals as goal
 
 pub returns-in-Count-clause-stands : goal.returns-in-Count-clause-stands
@@ -66,3 +66,24 @@ returns-in-Failed-clause-reads g c =
     let s = c.args.self.now in
     let h = c.in-Failed.ensures.reads in
     (refl, subst (OneRose g.S.Readable.shown s.sources.list) (sym h.is) (rose-slice_set g.S.Readable.shown s.sources.list s.at h.old h.new h.was h.reads.failed))
+
+pub returns-in-Count-clause-faults : goal.returns-in-Count-clause-faults
+returns-in-Count-clause-faults g c =
+    let s = c.args.self.now in
+    let h = c.in-Count.ensures.reads in
+    subst (λ ms. fault_count g.S.Readable.shown ms ≡ fault_count g.S.Readable.shown s.sources.list) (sym h.is) (faults-slice_set g.S.Readable.shown s.sources.list s.at h.old h.new h.was h.reads.failed)
+
+pub returns-in-End-clause-faults : goal.returns-in-End-clause-faults
+returns-in-End-clause-faults g c =
+    let s = c.args.self.now in
+    let h = c.in-End.ensures.reads in
+    subst (λ ms. fault_count g.S.Readable.shown ms ≡ fault_count g.S.Readable.shown s.sources.list) (sym h.is) (faults-slice_set g.S.Readable.shown s.sources.list s.at h.old h.new h.was h.reads.failed)
+
+pub returns-in-Failed-clause-faults : goal.returns-in-Failed-clause-faults
+returns-in-Failed-clause-faults g c =
+    let s = c.args.self.now in
+    let t = record s { sources = c.read_front.new.sources; buffer = c.read_front.new.buffer } in
+    let h = c.in-Failed.ensures.reads in
+    rose-count g.S.Readable.shown s.sources.list t.sources.list
+    (read-kept g.S.Readable.shown s c.requires.stands c.requires.empty _ t _ _ h c.read_front.ensures.len)
+    (subst (OneRose g.S.Readable.shown s.sources.list) (sym h.is) (rose-slice_set g.S.Readable.shown s.sources.list s.at h.old h.new h.was h.reads.failed))
