@@ -1,0 +1,2 @@
+pub mod Doc
+pub mod Place
