@@ -26,11 +26,22 @@ pub struct Routed {
     pub demand: Demand,
 }
 
+/// What is kept of an item of an open transaction.
+#[derive(Clone, Copy, Debug, PartialEq, Eq)]
+pub struct Count {
+    /// 0 once the item is answered, and else one more than how many of the parts from it aren't settled.
+    pub open: u64,
+    /// The least lost part from it.
+    pub lost: Option<u32>,
+    /// Where it can be answered, the next item that can be, or how many items there are where no later one can.
+    pub next: u64,
+}
+
 /// The parts of a transaction in order, and room for one count per item, so that answering takes no memory.
 #[derive(Drop)]
 pub struct Routes {
     pub parts: Sequence<Routed>,
-    pub counts: Sequence<u64>,
+    pub counts: Sequence<Count>,
 }
 
 impl Routes {
