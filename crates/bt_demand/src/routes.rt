@@ -29,11 +29,11 @@ pub struct Routed {
 /// What is kept of an item of an open transaction.
 #[derive(Clone, Copy, Debug, PartialEq, Eq)]
 pub struct Count {
-    /// 0 once the item is answered, and else one more than how many of the parts from it aren't settled.
-    pub open: u64,
+    /// How much is left to do for it: one for each part from it that isn't settled, and one for its answer.
+    pub left: u64,
     /// The least lost part from it.
     pub lost: Option<u32>,
-    /// Where it can be answered, the next item that can be, or how many items there are where no later one can.
+    /// Where only its answer is left, the next item of which the same holds, or how many items there are where none does.
     pub next: u64,
 }
 
