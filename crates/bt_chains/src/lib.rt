@@ -7,9 +7,6 @@ ghost use Rattle.bt_chains.specs.Links.{grown, joined};
 ghost use Rattle.bt_chains.specs.Places.{IsPopped, IsPushed, IsSound, after_of, all_free, chain_at, entry_at, front_entry, front_of};
 ghost use Rattle.std.specs.Prelude.{◌≡◌, ℕ, ◌<◌, ◌-◌, ◌^◌, ◌↔◌, [], IsNone, IfErr, IfOk, length, option_copied};
 
-#[cfg(test)]
-mod tests;
-
 use bt_ports::NoMemory;
 use std::alloc::{AllocError, Global};
 use std::marker::Model;
@@ -85,6 +82,7 @@ impl Pool {
         ensures full { IfErr result (λ e. (self.old.free ≡ []) × (self.new ≡ self.old) × (e.1 ≡ entry)) }
         ensures chains { length self.new.chains ≡ length self.old.chains }
         ensures entries { length self.new.entries ≡ length self.old.entries }
+        ensures sound { IsSound self.old }
     {
         if self.vacant_len == 0 {
             return Err((Full, entry));
@@ -106,6 +104,7 @@ impl Pool {
         ensures empty { IsNone result ↔ (chain_at self.old chain ≡ []) }
         ensures chains { length self.new.chains ≡ length self.old.chains }
         ensures entries { length self.new.entries ≡ length self.old.entries }
+        ensures sound { IsSound self.old }
     {
         let Chain { first, last, len } = self.chains[chain as usize];
         if len == 0 {

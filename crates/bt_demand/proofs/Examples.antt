@@ -1,6 +1,7 @@
 -- The definitions, computed on small trees.
 use Rattle.std.proofs.Common.{◌≡◌, true, false, [], ◌∷◌, None, Some, refl}
 use Rattle.bt_demand.specs.Asked.{asked, owed}
+use Rattle.bt_demand.specs.Holding.{active, waiting, waits_at, holds_at, booked_in, held_by}
 use Rattle.bt_demand.specs.Holds.{holds}
 use Rattle.bt_demand.specs.Next.{todo}
 use Rattle.bt_demand.specs.Outcomes.{met, lost}
@@ -80,3 +81,34 @@ one_hold = refl
 -- through an All to the first lost child, and through a First to the last
 text_of_reject : why (all (more drop (more (first (more (reject (97 ∷ [])) (more (reject (98 ∷ [])) none))) (more (reject (99 ∷ [])) none)))) ≡ Some (98 ∷ [])
 text_of_reject = refl
+
+-- no hold is booked before the part begins, nor once it is settled or the hold is released
+nothing_booked_yet : booked_in (walk Fresh Fresh Fresh Idle) ≡ 0
+nothing_booked_yet = refl
+
+booked_while_it_may_wait : booked_in (walk Good Fresh Fresh Idle) ≡ 1
+booked_while_it_may_wait = refl
+
+booked_while_it_waits : booked_in (walk Good Bad Fresh Waiting) ≡ 1
+booked_while_it_waits = refl
+
+not_booked_below_a_release : booked_in (walk Good Bad Fresh Released) ≡ 0
+not_booked_below_a_release = refl
+
+not_booked_where_settled : booked_in (walk Good Good Fresh Idle) ≡ 0
+not_booked_where_settled = refl
+
+idle_is_active : active (walk Good Good Fresh Idle) ≡ 1
+idle_is_active = refl
+
+one_waits : waiting (walk Good Bad Fresh Waiting) ≡ 1
+one_waits = refl
+
+none_of_another_number : waits_at 2 (walk Good Bad Fresh Waiting) ≡ 0
+none_of_another_number = refl
+
+one_of_its_number : holds_at 3 (walk Fresh Fresh Fresh Idle) ≡ 1
+one_of_its_number = refl
+
+its_message : held_by 3 (walk Fresh Fresh Fresh Idle) ≡ Some (record { ends = true; size = 0 })
+its_message = refl

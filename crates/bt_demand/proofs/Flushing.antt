@@ -184,7 +184,7 @@ mutual
   late_first_next n m (more t ts) (s, inl r) e = elim (else-waits (todo t) (todo_of_first ts) m e) [ inl h ↦ late_next n m t s h | inr h ↦ (let k = outcome_todo t in let j = ap outcome_after h.0 in absurd (met_lost (sym r ∙ k ∙ j))) ]
   late_first_next n m (more t ts) (s, inr (inl r)) e = elim (else-waits (todo t) (todo_of_first ts) m e) [ inl h ↦ late_next n m t s h | inr h ↦ (let k = outcome_todo t in let j = ap outcome_after h.0 in absurd (open_lost (sym (stuck_open n t r) ∙ k ∙ j))) ]
 
-both_still : (a b : Option Todo) → Still (both a b) → Still a × Still b
+pub both_still : (a b : Option Todo) → Still (both a b) → Still a × Still b
 both_still (Some (Put l k)) b s = absurd s
 both_still (Some (Wait m)) b s = absurd s
 both_still (Some (Settled x)) (Some (Put l k)) s = absurd s
@@ -196,7 +196,7 @@ both_still None (Some (Wait m)) s = absurd s
 both_still None (Some (Settled y)) s = (tt, tt)
 both_still None None s = (tt, tt)
 
-fallback_still : (a b : Option Todo) → Still (fallback a b) → Still a × (outcome_after a ≡ Lost → Still b)
+pub fallback_still : (a b : Option Todo) → Still (fallback a b) → Still a × (outcome_after a ≡ Lost → Still b)
 fallback_still (Some (Put l k)) b s = absurd s
 fallback_still (Some (Wait m)) b s = absurd s
 fallback_still (Some (Settled true)) b s = (tt, λ e. absurd (met_lost e))
@@ -238,19 +238,19 @@ mutual
   high_all_lower n m none p h = tt
   high_all_lower n m (more t ts) p h = (high_lower n m t p h.0, high_all_lower n m ts p h.1)
 
-all_open_parts : (a b : Outcome) → outcome_of_both a b ≡ Open → (a ≡ Open) ⊎ (b ≡ Open)
+pub all_open_parts : (a b : Outcome) → outcome_of_both a b ≡ Open → (a ≡ Open) ⊎ (b ≡ Open)
 all_open_parts Open b e = inl refl
 all_open_parts Met b e = inr e
 all_open_parts Lost Open e = inr refl
 all_open_parts Lost Met e = cc
 all_open_parts Lost Lost e = cc
 
-first_open_parts : (a b : Outcome) → outcome_or_else a b ≡ Open → (a ≡ Open) ⊎ ((a ≡ Lost) × (b ≡ Open))
+pub first_open_parts : (a b : Outcome) → outcome_or_else a b ≡ Open → (a ≡ Open) ⊎ ((a ≡ Lost) × (b ≡ Open))
 first_open_parts Open b e = inl refl
 first_open_parts Met b e = cc
 first_open_parts Lost b e = inr (refl, e)
 
-leaf_still : (l k : ℕ) (x : State) → Still (todo_of_leaf l k x) → outcome_of_state x ≡ Open → ⊥
+pub leaf_still : (l k : ℕ) (x : State) → Still (todo_of_leaf l k x) → outcome_of_state x ≡ Open → ⊥
 leaf_still l k Fresh s e = absurd s
 leaf_still l k Good s e = cc
 leaf_still l k Bad s e = cc

@@ -7,8 +7,10 @@ pub mod NextSettles
 pub mod NextStarts
 pub mod Order
 pub mod Outcomes
+pub mod Reached
 pub mod Reasons
 pub mod Recorded
 pub mod Rows
+pub mod Shapes
 pub mod Starts
 pub mod Untouched

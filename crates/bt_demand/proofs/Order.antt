@@ -3,7 +3,7 @@ use Rattle.std.proofs.Common.{◌≡◌, ℕ, ◌<◌, List, [], ◌∷◌, ◌+
 use Rattle.std.specs.List.{AllByRecursion}
 use Rattle.bt_demand.specs.Flushing.{High, HighAll, Has, HasAny, InOrder, InOrderAll, InOrderFirst}
 use Rattle.bt_demand.specs.Tree.{Tree, Trees, leaf, drop, reject, all, first, hold, none, more}
-use Rattle.bt_demand.specs.WellFormed.{WellFormed, nodes, nodes_in, Rises, IsFlat, AreFlat}
+use Rattle.bt_demand.specs.WellFormed.{nodes, nodes_in, Rises, IsFlat, AreFlat}
 use Rattle.bt_demand.proofs.Lists.{InList, in-left, in-right, all-left, all-right}
 
 -- of two lists that rise together, the numbers of the second are above each of the first
@@ -53,7 +53,7 @@ none-in m [] e h = h
 none-in m (x ∷ xs) e h = cc
 
 mutual
-  in-order : (t : Tree) → IsFlat t → Rises (nodes t) → InOrder t
+  pub in-order : (t : Tree) → IsFlat t → Rises (nodes t) → InOrder t
   in-order (leaf n k b s) f r = tt
   in-order drop f r = tt
   in-order (reject w) f r = tt
@@ -70,7 +70,3 @@ mutual
   in-order-first none f r = tt
   in-order-first (more t ts) f r =
       (in-order t f.0 (rises-left (nodes t) (nodes_in ts) r), (λ m h. high-nodes-in m ts (rises-across m (nodes t) (nodes_in ts) r (has-node m t h))), in-order-first ts f.1 (rises-right (nodes t) (nodes_in ts) r))
-
--- a demand that is well formed has its holds in order
-pub well-formed-in-order : (sinks holds : ℕ) (t : Tree) → WellFormed sinks holds t → InOrder t
-well-formed-in-order sinks holds t w = in-order t w.holds_flat w.holds_rise

@@ -30,7 +30,7 @@ leaf-put n k l j Bad e = cc
 
 -- the leaf that is next stands in the tree
 mutual
-  next-leaf : (l k : ℕ) (t : Tree) → todo t ≡ Some (Put l k) → InList l (leaves t)
+  pub next-leaf : (l k : ℕ) (t : Tree) → todo t ≡ Some (Put l k) → InList l (leaves t)
   next-leaf l k (leaf n j b x) e = inl (leaf-put n j l k x e)
   next-leaf l k drop e = cc
   next-leaf l k (reject w) e = cc
@@ -60,7 +60,7 @@ state-absent n l s x false e h = refl
 
 -- settling a leaf that isn't there changes nothing
 mutual
-  settle-absent : (l : ℕ) (s : State) (t : Tree) → (InList l (leaves t) → ⊥) → settle l s t ≡ t
+  pub settle-absent : (l : ℕ) (s : State) (t : Tree) → (InList l (leaves t) → ⊥) → settle l s t ≡ t
   settle-absent l s (leaf n k b x) h = ap (leaf n k b) (state-absent n l s x (eqb n l) refl (λ e. h (inl e)))
   settle-absent l s drop h = refl
   settle-absent l s (reject w) h = refl
@@ -68,7 +68,7 @@ mutual
   settle-absent l s (first ts) h = ap first (settle-absent-in l s ts h)
   settle-absent l s (hold n e z c g) h = ap (λ d. hold n e z d g) (settle-absent l s c h)
 
-  settle-absent-in : (l : ℕ) (s : State) (ts : Trees) → (InList l (leaves_in ts) → ⊥) → settle_each l s ts ≡ ts
+  pub settle-absent-in : (l : ℕ) (s : State) (ts : Trees) → (InList l (leaves_in ts) → ⊥) → settle_each l s ts ≡ ts
   settle-absent-in l s none h = refl
   settle-absent-in l s (more t ts) h =
       let i = settle-absent l s t (λ w. h (in-left l (leaves t) (leaves_in ts) w)) in

@@ -1,5 +1,5 @@
 //! What derives the parts of a transaction.
-ghost use Rattle.std.specs.Prelude.{◌≡◌, ℕ, ◌≤◌, List, [], length, IfOk};
+ghost use Rattle.std.specs.Prelude.{◌≡◌, ℕ, ◌<◌, ◌≤◌, ◌^◌, List, [], length, IfOk};
 ghost use Rattle.bt_demand.specs.Parts.{Part, PartsFit, parts_of};
 ghost use Rattle.bt_demand.specs.declared.routes.HoldPolicy.{HoldPolicy};
 ghost use Rattle.bt_ports.specs.declared.parts.Txn.{Txn};
@@ -19,11 +19,12 @@ pub trait Derive: Drop + Send + Sync {
     // The policies of the holds, by their numbers.
     ghost policies: { Self → List HoldPolicy };
 
-    /// Derives the parts of the transaction, with room for one count for each of its items.
+    /// Derives the parts of the transaction, fewer than 2^32, with room for one count for each of its items.
     fn derive(&self, txn: &Txn) -> Result<Routes, NoMemory>
         ensures parts { IfOk result (λ r. parts_of r.parts.list ≡ parts self.now txn.now) }
         ensures counts { IfOk result (λ r. r.counts.list ≡ []) }
-        ensures room { IfOk result (λ r. length txn.now.items.list ≤ r.counts.spare) };
+        ensures room { IfOk result (λ r. length txn.now.items.list ≤ r.counts.spare) }
+        ensures few { IfOk result (λ r. length r.parts.list < 2 ^ 32) };
 
     /// The policies of the holds, by their numbers. It takes no memory.
     fn holds(&self) -> &HoldPolicies

@@ -6,11 +6,10 @@
 
 pub mod demand;
 pub mod derive;
+pub mod holding;
 pub mod laws;
 pub mod outcome;
 pub mod routes;
 pub mod search;
 pub mod steps;
-#[cfg(test)]
-mod tests;
 pub mod todo;

@@ -26,11 +26,22 @@ pub struct Routed {
     pub demand: Demand,
 }
 
+/// What is kept of an item of an open transaction.
+#[derive(Clone, Copy, Debug, PartialEq, Eq)]
+pub struct Count {
+    /// How much is left to do for it: one for each part from it that isn't settled, and one for its answer.
+    pub left: u64,
+    /// The least lost part from it.
+    pub lost: Option<u32>,
+    /// Where only its answer is left, the next item of which the same holds, or how many items there are where none does.
+    pub next: u64,
+}
+
 /// The parts of a transaction in order, and room for one count per item, so that answering takes no memory.
 #[derive(Drop)]
 pub struct Routes {
     pub parts: Sequence<Routed>,
-    pub counts: Sequence<u64>,
+    pub counts: Sequence<Count>,
 }
 
 impl Routes {

@@ -5,6 +5,7 @@
 ghost use Rattle.std.specs.Prelude.{◌≡◌, ℕ, ◌<◌, Some};
 ghost use Rattle.bt_demand.specs.Next.{todo};
 ghost use Rattle.bt_demand.specs.Outcomes.{outcome};
+ghost use Rattle.bt_demand.specs.Reached.{IsNext};
 ghost use Rattle.bt_demand.specs.Recorded.{Grows};
 ghost use Rattle.bt_demand.specs.Steps.{settle, settle_each, state_for, settles, wait, wait_each, waits, release, release_each, releases};
 ghost use Rattle.bt_demand.specs.WellFormed.{leaves, nodes, Differ, Rises};
@@ -23,7 +24,7 @@ impl Demand {
         ensures tree { tree self.new ≡ settle number (state_for accepted) (tree self.old) }
         ensures falls { (sink : ℕ) → todo (tree self.old) ≡ Some (Put number sink) → work (tree self.new) < work (tree self.old) }
         ensures stays { Grows (outcome (tree self.old)) (outcome (tree self.new)) }
-        ensures untouched { (sink : ℕ) → Differ (leaves (tree self.old)) → todo (tree self.old) ≡ Some (Put number sink) → Untouched (tree self.old) → Untouched (tree self.new) }
+        ensures untouched { (sink : ℕ) → Differ (leaves (tree self.old)) → IsNext number sink (tree self.old) → Untouched (tree self.old) → Untouched (tree self.new) }
     {
         self.settle_leaf(number, accepted);
     }

@@ -1,7 +1,7 @@
 use Rattle.std.proofs.Common.{arith, sym}
 use Rattle.std.proofs.lemmas.List.{length-set}
 use Rattle.bt_chains.proofs.Outcomes.{chains_kept, within_pop, pop}
-use Rattle.bt_chains.proofs.Moves.{chain_within, emptiness}
+use Rattle.bt_chains.proofs.Moves.{sound, chain_within, emptiness}
 use Rattle.bt_chains.proofs.Pool.pop_front.Goals as goal
 
 pub index-entry-requires : goal.index-entry-requires
@@ -57,3 +57,9 @@ returns-clause-chains c = rw (← c.self.view_is) (chains_kept _ _ _ _ _)
 
 pub returns-clause-entries : goal.returns-clause-entries
 returns-clause-entries c = rw (← c.self.view_is) (length-set _ _ _)
+
+pub returns-then-len-eq0-clause-sound : goal.returns-then-len-eq0-clause-sound
+returns-then-len-eq0-clause-sound c = rw (← c.self.view_is) (sound _ _ _ _ _ c.self.invariant)
+
+pub returns-clause-sound : goal.returns-clause-sound
+returns-clause-sound c = rw (← c.self.view_is) (sound _ _ _ _ _ c.self.invariant)

@@ -1,7 +1,7 @@
 use Rattle.std.proofs.Common.{arith, sym}
 use Rattle.std.proofs.lemmas.List.{length-set}
 use Rattle.bt_chains.proofs.Outcomes.{chains_kept, push, pushed_links}
-use Rattle.bt_chains.proofs.Moves.{chain_within, free_within, short, last_within}
+use Rattle.bt_chains.proofs.Moves.{sound, chain_within, free_within, short, last_within}
 use Rattle.bt_chains.proofs.Pool.push_back.Goals as goal
 
 pub index-requires : goal.index-requires
@@ -49,3 +49,9 @@ returns-clause-chains c = rw (← c.self.view_is) (chains_kept _ _ _ _ _)
 
 pub returns-clause-entries : goal.returns-clause-entries
 returns-clause-entries c = rw (← c.self.view_is) (length-set _ _ _)
+
+pub returns-then-self-eq0-clause-sound : goal.returns-then-self-eq0-clause-sound
+returns-then-self-eq0-clause-sound c = rw (← c.self.view_is) (sound _ _ _ _ _ c.self.invariant)
+
+pub returns-clause-sound : goal.returns-clause-sound
+returns-clause-sound c = rw (← c.self.view_is) (sound _ _ _ _ _ c.self.invariant)

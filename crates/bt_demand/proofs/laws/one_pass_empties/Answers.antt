@@ -1,10 +1,10 @@
 use Rattle.bt_demand.proofs.Flushing.{late_still, late_stays, late_next}
 use Rattle.bt_demand.proofs.Moves.{settle_steps, wait_steps, release_steps}
-use Rattle.bt_demand.proofs.Order.{well-formed-in-order}
+use Rattle.bt_demand.proofs.Order.{in-order}
 use Rattle.bt_demand.proofs.laws.one_pass_empties.Goals as goal
 
 pub returns-clause-still : goal.returns-clause-still
-returns-clause-still c = λ n sinks holds t well. late_still n t (well-formed-in-order sinks holds t well)
+returns-clause-still c = λ n t flat rises. late_still n t (in-order t flat rises)
 
 pub returns-clause-settling : goal.returns-clause-settling
 returns-clause-settling c = settle_steps

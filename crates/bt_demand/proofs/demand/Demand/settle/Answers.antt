@@ -5,7 +5,7 @@ use Rattle.bt_demand.specs.Work.{work}
 use Rattle.bt_demand.proofs.Falls.{settle_less}
 use Rattle.bt_demand.proofs.Flushing.{outcome_grows}
 use Rattle.bt_demand.proofs.Moves.{settle_steps}
-use Rattle.bt_demand.proofs.Untouched.{settle-untouched}
+use Rattle.bt_demand.proofs.Reached.{next-untouched}
 use Rattle.bt_demand.proofs.demand.Demand.settle.Goals as goal
 
 pub returns-clause-falls : goal.returns-clause-falls
@@ -18,4 +18,4 @@ pub returns-clause-stays : goal.returns-clause-stays
 returns-clause-stays c = rw c.settle_leaf.ensures (outcome_grows 0 _ _ (settle_steps 0 c.args.number (state_for c.args.accepted) (tree c.args.self.now)))
 
 pub returns-clause-untouched : goal.returns-clause-untouched
-returns-clause-untouched c = λ sink differ next was. rw c.settle_leaf.ensures (settle-untouched c.args.number sink (state_for c.args.accepted) (tree c.args.self.now) differ was next)
+returns-clause-untouched c = λ sink differ next was. rw c.settle_leaf.ensures (next-untouched c.args.number sink (state_for c.args.accepted) (tree c.args.self.now) differ was next)
