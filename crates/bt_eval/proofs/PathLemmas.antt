@@ -14,11 +14,11 @@ use Rattle.bt_value.specs.declared.val.Val.{Val, out-Val, map-Val, fold_out-Val,
 use Rattle.bt_value.specs.declared.val.Val.TheOpen.{Val-F}
 use Rattle.bt_value.specs.declared.val.Val.TheVariants as v
 use Rattle.bt_syntax.specs.Built.{are_names, is_this, is_built, is_built_query}
-use Rattle.bt_syntax.specs.declared.tree.Query.{Query, out-Query, map-Query, fold_out-Query, the_lemmas as query_lemmas}
-use Rattle.bt_syntax.specs.declared.tree.Query.TheOpen.{Query-F}
-use Rattle.bt_syntax.specs.declared.tree.Query.TheVariants as q
-use Rattle.bt_syntax.specs.declared.tree.Suffix.{Suffix}
-use Rattle.bt_syntax.specs.declared.tree.Suffix.TheVariants as s
+use Rattle.bt_tree.specs.declared.tree.Query.{Query, out-Query, map-Query, fold_out-Query, the_lemmas as query_lemmas}
+use Rattle.bt_tree.specs.declared.tree.Query.TheOpen.{Query-F}
+use Rattle.bt_tree.specs.declared.tree.Query.TheVariants as q
+use Rattle.bt_tree.specs.declared.tree.Suffix.{Suffix}
+use Rattle.bt_tree.specs.declared.tree.Suffix.TheVariants as s
 use Rattle.bt_eval.specs.Meaning.{Where, value, value_of, suffixes, segment, this_of, read_as, in_profile, not_json}
 use Rattle.bt_eval.specs.Written.{Writes, given, names_of, at_names}
 

@@ -4,10 +4,10 @@ use Rattle.std.specs.Prelude.{ℕ, List, [], ◌∷◌, ◌++◌, codes, decimal
 use Rattle.bt_value.specs.Reading.{text}
 use Rattle.bt_value.specs.declared.val.Val.{Val, out-Val}
 use Rattle.bt_value.specs.declared.val.Val.TheOpen.{Val-F}
-use Rattle.bt_syntax.specs.declared.tree.Mapping.{Mapping}
-use Rattle.bt_syntax.specs.declared.tree.Mapping.TheVariants as m
-use Rattle.bt_syntax.specs.declared.tree.Stmt.{Stmt}
-use Rattle.bt_syntax.specs.declared.tree.Stmt.TheVariants as st
+use Rattle.bt_tree.specs.declared.tree.Mapping.{Mapping}
+use Rattle.bt_tree.specs.declared.tree.Mapping.TheVariants as m
+use Rattle.bt_tree.specs.declared.tree.Stmt.{Stmt}
+use Rattle.bt_tree.specs.declared.tree.Stmt.TheVariants as st
 use Rattle.bt_value.specs.declared.message.Msg.{Msg}
 use Rattle.bt_value.specs.declared.message.Out.{Out}
 use Rattle.bt_value.specs.declared.message.Out.TheVariants.{Value, Failed, Deleted, Nothing}

@@ -7,10 +7,10 @@ use Rattle.bt_value.specs.Paths.{step}
 use Rattle.bt_value.specs.Reading.{of_data}
 use Rattle.bt_value.specs.declared.val.Val.{Val, out-Val}
 use Rattle.bt_value.specs.declared.val.Val.TheVariants as v
-use Rattle.bt_syntax.specs.declared.tree.Query.{Query, fold-Query}
-use Rattle.bt_syntax.specs.declared.tree.Query.TheOpen.{Query-F}
-use Rattle.bt_syntax.specs.declared.tree.Suffix.{Suffix}
-use Rattle.bt_syntax.specs.declared.tree.Suffix.TheVariants as s
+use Rattle.bt_tree.specs.declared.tree.Query.{Query, fold-Query}
+use Rattle.bt_tree.specs.declared.tree.Query.TheOpen.{Query-F}
+use Rattle.bt_tree.specs.declared.tree.Suffix.{Suffix}
+use Rattle.bt_tree.specs.declared.tree.Suffix.TheVariants as s
 use Rattle.bt_value.specs.declared.message.Out.{Out}
 use Rattle.bt_value.specs.declared.message.Out.TheVariants.{Value, Failed, Deleted, Nothing}
 

@@ -4,9 +4,9 @@ use Rattle.bt_value.specs.Paths.{at_path}
 use Rattle.bt_value.specs.declared.message.Out.{Out}
 use Rattle.bt_value.specs.declared.message.Out.TheVariants.{Value, Failed, Deleted, Nothing}
 use Rattle.bt_value.specs.declared.val.Val.TheVariants as v
-use Rattle.bt_syntax.specs.declared.tree.Query.{Query}
-use Rattle.bt_syntax.specs.declared.tree.Suffix.{Suffix}
-use Rattle.bt_syntax.specs.declared.tree.Suffix.TheVariants as s
+use Rattle.bt_tree.specs.declared.tree.Query.{Query}
+use Rattle.bt_tree.specs.declared.tree.Suffix.{Suffix}
+use Rattle.bt_tree.specs.declared.tree.Suffix.TheVariants as s
 use Rattle.bt_eval.specs.Mapped.{content_of}
 use Rattle.bt_eval.specs.Meaning.{this_of, value}
 

@@ -13,7 +13,7 @@ ghost use Rattle.bt_eval.specs.Written.{Writes, given, names_of, at_names};
 use crate::this::read_this;
 use bt_ports::NoMemory;
 use bt_ports::blob::Blob;
-use bt_syntax::{Query, Suffix};
+use bt_tree::{Query, Suffix};
 use bt_value::{Val, path_get, write_json};
 use std::alloc::Global;
 use std::slice;

@@ -11,7 +11,8 @@ use crate::query::written;
 use bt_ports::NoMemory;
 use bt_ports::blob::Blob;
 use bt_ports::text::Text;
-use bt_syntax::{Mapping, Query, Ready, Stmt};
+use bt_ready::Ready;
+use bt_tree::{Mapping, Query, Stmt};
 use bt_value::{Msg, copy_members};
 use std::alloc::Global;
 

@@ -26,8 +26,6 @@ pub mod pieces;
 pub mod places;
 pub mod reading;
 mod strings;
-#[cfg(test)]
-mod tests;
 pub mod token;
 pub mod values;
 mod words;

@@ -1,6 +1,7 @@
 //! One case.
 
 use crate::statements::mapping_shape;
+use crate::tokens::tokens_shape;
 use bt_lexer::{LexFault, lex, place};
 use bt_syntax::{Mapping, SyntaxFault, parse, parse_check};
 use std::alloc::{AllocError, Global};
@@ -94,6 +95,9 @@ impl<'a> Case<'a> {
             Ok(tokens) => tokens,
             Err(fault) => return lex_fault(alloc, text.as_str(), fault),
         };
+        if self.how == "tokens" {
+            return tokens_shape(alloc, text.as_str(), &tokens);
+        }
         let found = if self.how == "check" {
             parse_check(alloc, text.as_str(), &tokens)
         } else {

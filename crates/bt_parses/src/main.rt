@@ -1,8 +1,8 @@
-//! Parses mappings, and prints their trees or their faults.
+//! Parses mappings, and prints their trees or their faults, or the tokens of a text.
 //!
 //! A case is a line of the standard input, of fields with a semicolon between: `mapping` or `check`, for a mapping or a
-//! query alone, or `long` for a mapping of which only the outcome is printed; and the text, in which a tilde stands for
-//! a line feed. Four more fields are a count, a piece that follows the text so many times, what follows then, and a piece
+//! query alone, `long` for a mapping of which only the outcome is printed, or `tokens` for the tokens alone; and the
+//! text, in which a tilde stands for a line feed. Four more fields are a count, a piece that follows the text so many times, what follows then, and a piece
 //! that follows that so many times.
 //!
 //! A tree is printed with its kinds of nodes in parentheses, names with their places behind an `@`, and statements with
@@ -12,6 +12,7 @@
 mod case;
 mod queries;
 mod statements;
+mod tokens;
 
 use case::Case;
 use std::alloc::{AllocError, Global};

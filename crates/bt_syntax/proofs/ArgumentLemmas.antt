@@ -2,11 +2,11 @@
 use Rattle.std.proofs.Common.{◌≡◌, ℕ, zero, suc, true, List, [], ◌∷◌, ◌++◌, Option, Some, None, inl, inr, refl, sym, ap, ◌∙◌, subst, append-nil, lit≤, pos}
 use Rattle.bt_lexer.specs.declared.token.Kind.{Kind}
 use Rattle.bt_lexer.specs.declared.token.Kind.TheVariants as kinds
-use Rattle.bt_syntax.specs.declared.tree.Query.{Query, out-Query}
-use Rattle.bt_syntax.specs.declared.tree.Query.TheOpen.{Query-F}
-use Rattle.bt_syntax.specs.declared.tree.Query.TheVariants as e
-use Rattle.bt_syntax.specs.declared.tree.Arg.{Arg}
-use Rattle.bt_syntax.specs.declared.tree.Arg.TheVariants as a
+use Rattle.bt_tree.specs.declared.tree.Query.{Query, out-Query}
+use Rattle.bt_tree.specs.declared.tree.Query.TheOpen.{Query-F}
+use Rattle.bt_tree.specs.declared.tree.Query.TheVariants as e
+use Rattle.bt_tree.specs.declared.tree.Arg.{Arg}
+use Rattle.bt_tree.specs.declared.tree.Arg.TheVariants as a
 use Rattle.bt_syntax.specs.declared.keywords.Keyword.{Keyword}
 use Rattle.bt_syntax.specs.declared.keywords.Keyword.TheVariants as w
 use Rattle.bt_syntax.specs.Lexemes.{Lexeme, Lexemes, reserved, number}
@@ -22,7 +22,7 @@ use Rattle.bt_syntax.proofs.Many.{Begins, begins_some}
 use Rattle.bt_syntax.proofs.TokenLemmas.{kind_is, below, below_wider, ends_mark}
 use Rattle.bt_syntax.proofs.Forms.{behind_lawful, behind_begins, bracketed_lawful}
 use Rattle.bt_syntax.proofs.Lists.{listed_lawful}
-use Rattle.bt_syntax.proofs.Layers.{out-Null, out-True, out-False, out-Int, out-Quoted, out-This, out-Root, out-Name, out-Var, out-Metadata, out-Meta, out-Call, out-Paren, out-List, out-Object, out-Item, out-Prefix, out-Product, out-Sum, out-Compare, out-And, out-Or, out-Coalesce, out-Match, out-If}
+use Rattle.bt_tree.proofs.Layers.{out-Null, out-True, out-False, out-Int, out-Quoted, out-This, out-Root, out-Name, out-Var, out-Metadata, out-Meta, out-Call, out-Paren, out-List, out-Object, out-Item, out-Prefix, out-Product, out-Sum, out-Compare, out-And, out-Or, out-Coalesce, out-Match, out-If}
 use Rattle.bt_syntax.proofs.FirstTokens.{query_first, nested_begins, begins_wider, not_paren, head_is_query, free_first}
 
 -- ---- a query that is a name is one token

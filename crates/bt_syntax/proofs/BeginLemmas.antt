@@ -5,9 +5,9 @@ use Rattle.bt_lexer.specs.declared.token.Kind.TheVariants as kinds
 use Rattle.bt_value.specs.declared.names.PrefixOp.{PrefixOp}
 use Rattle.bt_syntax.specs.declared.keywords.Keyword.{Keyword}
 use Rattle.bt_syntax.specs.declared.keywords.Keyword.TheVariants as w
-use Rattle.bt_syntax.specs.declared.tree.Key.{Key}
-use Rattle.bt_syntax.specs.declared.tree.Query.{Query}
-use Rattle.bt_syntax.specs.declared.tree.Stmt.{Stmt}
+use Rattle.bt_tree.specs.declared.tree.Key.{Key}
+use Rattle.bt_tree.specs.declared.tree.Query.{Query}
+use Rattle.bt_tree.specs.declared.tree.Stmt.{Stmt}
 use Rattle.bt_syntax.specs.Lexemes.{Lexeme, Lexemes, reserved, reserved_in}
 use Rattle.bt_syntax.specs.Rules.{Separated, single, Behind, behind, Bracketed, Optional, absent, present}
 use Rattle.bt_syntax.specs.Rules as rules

@@ -9,11 +9,11 @@ use Rattle.bt_lexer.specs.declared.token.Token.{Token}
 use Rattle.bt_value.specs.Keys.{find}
 use Rattle.bt_syntax.specs.declared.keywords.Keyword.{Keyword}
 use Rattle.bt_syntax.specs.declared.keywords.Keyword.TheVariants as w
-use Rattle.bt_syntax.specs.declared.tree.Mapping.{Mapping}
-use Rattle.bt_syntax.specs.declared.tree.Query.{Query}
-use Rattle.bt_syntax.specs.declared.tree.Query.TheVariants as e
-use Rattle.bt_syntax.specs.declared.tree.Suffix.{Suffix}
-use Rattle.bt_syntax.specs.declared.tree.Suffix.TheVariants as x
+use Rattle.bt_tree.specs.declared.tree.Mapping.{Mapping}
+use Rattle.bt_tree.specs.declared.tree.Query.{Query}
+use Rattle.bt_tree.specs.declared.tree.Query.TheVariants as e
+use Rattle.bt_tree.specs.declared.tree.Suffix.{Suffix}
+use Rattle.bt_tree.specs.declared.tree.Suffix.TheVariants as x
 use Rattle.bt_syntax.specs.Built.{AreSteps, BuiltReading, IsName, ReadsQuery, assignment, bytes_of, path}
 use Rattle.bt_syntax.specs.Built as built
 use Rattle.bt_syntax.specs.Grammar as g

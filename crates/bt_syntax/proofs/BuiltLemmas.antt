@@ -22,11 +22,11 @@ use Rattle.bt_lexer.proofs.SpanLemmas.{tokens_spans}
 use Rattle.bt_lexer.proofs.SpellingLemmas.{spelled_text}
 use Rattle.bt_syntax.specs.Built.{bytes_of, IsName, AreSteps, path, ReadsQuery, has_only_blanks, assignment, BuiltReading, are_names, is_built_query, IsBuilt}
 use Rattle.bt_syntax.specs.BuiltTokens as parts
-use Rattle.bt_syntax.specs.declared.tree.Mapping.{Mapping}
-use Rattle.bt_syntax.specs.declared.tree.Query.{Query, the_lemmas}
-use Rattle.bt_syntax.specs.declared.tree.Query.TheVariants as queries
-use Rattle.bt_syntax.specs.declared.tree.Suffix.{Suffix}
-use Rattle.bt_syntax.specs.declared.tree.Suffix.TheVariants as suffixes
+use Rattle.bt_tree.specs.declared.tree.Mapping.{Mapping}
+use Rattle.bt_tree.specs.declared.tree.Query.{Query, the_lemmas}
+use Rattle.bt_tree.specs.declared.tree.Query.TheVariants as queries
+use Rattle.bt_tree.specs.declared.tree.Suffix.{Suffix}
+use Rattle.bt_tree.specs.declared.tree.Suffix.TheVariants as suffixes
 
 -- some steps, and then those of the rest
 abbrev pub behind : List (Suffix Query) → Option (List (Suffix Query)) → Option (List (Suffix Query))

@@ -3,12 +3,12 @@ use Rattle.std.proofs.Common.{◌≡◌, ℕ, suc, Bool, true, false, not, List,
 use Rattle.bt_lexer.specs.declared.token.Kind.TheVariants as kinds
 use Rattle.bt_syntax.specs.declared.keywords.Keyword.{Keyword}
 use Rattle.bt_syntax.specs.declared.keywords.Keyword.TheVariants as w
-use Rattle.bt_syntax.specs.declared.tree.Key.{Key}
-use Rattle.bt_syntax.specs.declared.tree.Query.{Query}
-use Rattle.bt_syntax.specs.declared.tree.Query.TheVariants as e
-use Rattle.bt_syntax.specs.declared.tree.MapStmt.TheVariants as ms
-use Rattle.bt_syntax.specs.declared.tree.Stmt.{Stmt}
-use Rattle.bt_syntax.specs.declared.tree.Stmt.TheVariants as st
+use Rattle.bt_tree.specs.declared.tree.Key.{Key}
+use Rattle.bt_tree.specs.declared.tree.Query.{Query}
+use Rattle.bt_tree.specs.declared.tree.Query.TheVariants as e
+use Rattle.bt_tree.specs.declared.tree.MapStmt.TheVariants as ms
+use Rattle.bt_tree.specs.declared.tree.Stmt.{Stmt}
+use Rattle.bt_tree.specs.declared.tree.Stmt.TheVariants as st
 use Rattle.bt_syntax.specs.Lexemes.{Lexeme, Lexemes, reserved}
 use Rattle.bt_syntax.specs.Places.{Viable}
 use Rattle.bt_syntax.specs.Rules.{Repeated, none, Listed, empty, Separated, single, Behind, behind, Bracketed, bracketed, absent}

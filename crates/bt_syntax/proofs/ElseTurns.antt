@@ -3,9 +3,9 @@ use Rattle.std.proofs.Common.{◌≡◌, ◌<◌, true, false, cond, List, [], �
 use Rattle.bt_syntax.specs.declared.keywords.Keyword.TheVariants as w
 use Rattle.bt_syntax.specs.declared.stop.Stop.{Stop}
 use Rattle.bt_syntax.specs.declared.stop.Stop.TheVariants as stop
-use Rattle.bt_syntax.specs.declared.tree.Branch.{Branch}
-use Rattle.bt_syntax.specs.declared.tree.Query.{Query}
-use Rattle.bt_syntax.specs.declared.tree.Query.TheVariants as e
+use Rattle.bt_tree.specs.declared.tree.Branch.{Branch}
+use Rattle.bt_tree.specs.declared.tree.Query.{Query}
+use Rattle.bt_tree.specs.declared.tree.Query.TheVariants as e
 use Rattle.bt_syntax.specs.Lexemes.{Lexeme, Lexemes}
 use Rattle.bt_syntax.specs.Reading.{Res, Got, Stuck, Deep, Reader, and_then, starts, map_res, go_on}
 use Rattle.bt_syntax.specs.Readers.{Else, More, Last, has_more, branches_of, last_of, is_reserved, expect_reserved, block, if_tested, else_turn, elses}

@@ -7,7 +7,7 @@ use Rattle.bt_syntax.specs.Lexemes.{Lexeme, Lexemes}
 use Rattle.bt_syntax.specs.Brackets.{deep_at}
 use Rattle.bt_syntax.specs.Places.{FirstBad, Refuses}
 use Rattle.bt_syntax.specs.Reading.{Got, Stuck, Reader}
-use Rattle.bt_syntax.specs.declared.tree.Mapping.{Mapping}
+use Rattle.bt_tree.specs.declared.tree.Mapping.{Mapping}
 use Rattle.bt_syntax.specs.Grammar.{ReadsMapping, ReadsCheck}
 use Rattle.bt_syntax.specs.Readers.{query, mapping_by, mapping, check_by, check}
 use Rattle.bt_syntax.specs.Code.{Reads, ended}

@@ -5,25 +5,25 @@ use Rattle.bt_lexer.specs.declared.token.Kind.{Kind}
 use Rattle.bt_lexer.specs.declared.token.Kind.TheVariants as k
 use Rattle.bt_value.specs.declared.names.Op.TheVariants as op
 use Rattle.bt_value.specs.declared.names.PrefixOp.TheVariants as po
-use Rattle.bt_syntax.specs.declared.tree.Key.TheVariants as key
+use Rattle.bt_tree.specs.declared.tree.Key.TheVariants as key
 use denote.Hole.Carrier.{out, shown, hidden}
-use Rattle.bt_syntax.specs.declared.tree.Query.TheBlock as block
-use Rattle.bt_syntax.specs.declared.tree.Query.{Query, fold-Query, out-Query}
-use Rattle.bt_syntax.specs.declared.tree.Query.TheFolds.{fold-roll-Query}
-use Rattle.bt_syntax.specs.declared.tree.Query.TheVariants as e
-use Rattle.bt_syntax.specs.declared.tree.Query.TheOpen.{Query-F}
-use Rattle.bt_syntax.specs.declared.tree.Word.{Word}
-use Rattle.bt_syntax.specs.declared.tree.Term.{Term}
-use Rattle.bt_syntax.specs.declared.tree.Suffix.TheVariants as s
-use Rattle.bt_syntax.specs.declared.tree.Arg.TheVariants as a
-use Rattle.bt_syntax.specs.declared.tree.Case.TheVariants as case
-use Rattle.bt_syntax.specs.declared.tree.Stmt.TheVariants as st
-use Rattle.bt_syntax.specs.declared.tree.Mapping.{Mapping}
-use Rattle.bt_syntax.specs.declared.tree.Mapping.TheVariants as m
+use Rattle.bt_tree.specs.declared.tree.Query.TheBlock as block
+use Rattle.bt_tree.specs.declared.tree.Query.{Query, fold-Query, out-Query}
+use Rattle.bt_tree.specs.declared.tree.Query.TheFolds.{fold-roll-Query}
+use Rattle.bt_tree.specs.declared.tree.Query.TheVariants as e
+use Rattle.bt_tree.specs.declared.tree.Query.TheOpen.{Query-F}
+use Rattle.bt_tree.specs.declared.tree.Word.{Word}
+use Rattle.bt_tree.specs.declared.tree.Term.{Term}
+use Rattle.bt_tree.specs.declared.tree.Suffix.TheVariants as s
+use Rattle.bt_tree.specs.declared.tree.Arg.TheVariants as a
+use Rattle.bt_tree.specs.declared.tree.Case.TheVariants as case
+use Rattle.bt_tree.specs.declared.tree.Stmt.TheVariants as st
+use Rattle.bt_tree.specs.declared.tree.Mapping.{Mapping}
+use Rattle.bt_tree.specs.declared.tree.Mapping.TheVariants as m
 use Rattle.bt_syntax.specs.Lexemes.{Lexemes, reserved}
 use Rattle.bt_syntax.specs.Reading.{Res, Got, Stuck, Deep}
 use Rattle.bt_syntax.specs.Readers as r
-use Rattle.bt_syntax.specs.Same.{erase_step, query_erased, IsSame}
+use Rattle.bt_tree.specs.Same.{erase_step, query_erased, IsSame}
 
 answer : Lexemes → Res Mapping
 unfolding out-Query out shown hidden block.shown-the_row-Query-1 block.shown-the_row-Query-Item-1-13-4 reserved r.expect r.expect_reserved r.key r.arg r.args_inside r.args r.parens r.items_inside r.list_head r.member r.members_inside r.object_head r.metadata r.named r.meta_call r.token_alone r.head r.within r.named_suffix r.after_dot r.suffix r.suffixes r.item r.prefixed r.unary r.factor r.factors r.product r.term r.terms r.sum r.compared r.comparison r.ands r.ors r.logic r.pipes r.plain r.any_case r.when_case r.one_case r.cases r.subject r.match_query r.block r.tested r.if_tested r.else_turn r.elses r.if_query r.query_by r.query r.keys r.optional_key r.map_root r.map_let r.map_stmt r.map_body r.assigned r.root_stmt r.meta_stmt r.let_stmt r.map_definition r.stmt r.more_stmts r.statements r.assigned_first r.query_first r.draft r.mapping_by r.mapping

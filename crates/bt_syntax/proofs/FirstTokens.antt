@@ -5,7 +5,7 @@ use Rattle.bt_lexer.specs.declared.token.Kind.TheVariants as k
 use Rattle.bt_value.specs.declared.names.PrefixOp.{PrefixOp}
 use Rattle.bt_syntax.specs.declared.keywords.Keyword.{Keyword}
 use Rattle.bt_syntax.specs.declared.keywords.Keyword.TheVariants as w
-use Rattle.bt_syntax.specs.declared.tree.Query.{Query}
+use Rattle.bt_tree.specs.declared.tree.Query.{Query}
 use Rattle.bt_syntax.specs.Lexemes.{Lexeme, Lexemes, reserved}
 use Rattle.bt_syntax.specs.Rules.{Bracketed, bracketed}
 use Rattle.bt_syntax.specs.Grammar as g

@@ -4,12 +4,12 @@ use Rattle.bt_lexer.specs.declared.token.Kind.{Kind}
 use Rattle.bt_lexer.specs.declared.token.Kind.TheVariants as kinds
 use Rattle.bt_syntax.specs.declared.keywords.Keyword.{Keyword}
 use Rattle.bt_syntax.specs.declared.keywords.Keyword.TheVariants as w
-use Rattle.bt_syntax.specs.declared.tree.Key.{Key}
-use Rattle.bt_syntax.specs.declared.tree.Key.TheVariants as key
-use Rattle.bt_syntax.specs.declared.tree.Query.{Query}
-use Rattle.bt_syntax.specs.declared.tree.Query.TheVariants as e
-use Rattle.bt_syntax.specs.declared.tree.Arg.{Arg}
-use Rattle.bt_syntax.specs.declared.tree.Member.{Member}
+use Rattle.bt_tree.specs.declared.tree.Key.{Key}
+use Rattle.bt_tree.specs.declared.tree.Key.TheVariants as key
+use Rattle.bt_tree.specs.declared.tree.Query.{Query}
+use Rattle.bt_tree.specs.declared.tree.Query.TheVariants as e
+use Rattle.bt_tree.specs.declared.tree.Arg.{Arg}
+use Rattle.bt_tree.specs.declared.tree.Member.{Member}
 use Rattle.bt_syntax.specs.Lexemes.{Lexeme, Lexemes, reserved}
 use Rattle.bt_syntax.specs.Rules.{Listed, Behind, behind, Bracketed}
 use Rattle.bt_syntax.specs.Grammar as g

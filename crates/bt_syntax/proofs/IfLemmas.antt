@@ -2,9 +2,9 @@
 use Rattle.std.proofs.Common.{◌≡◌, ℕ, suc, List, [], ◌∷◌, ◌++◌, Option, inl, inr, refl, sym, ap, ◌∙◌, subst, append-nil}
 use Rattle.bt_lexer.specs.declared.token.Kind.TheVariants as kinds
 use Rattle.bt_syntax.specs.declared.keywords.Keyword.TheVariants as w
-use Rattle.bt_syntax.specs.declared.tree.Query.{Query}
-use Rattle.bt_syntax.specs.declared.tree.Query.TheVariants as e
-use Rattle.bt_syntax.specs.declared.tree.Branch.{Branch}
+use Rattle.bt_tree.specs.declared.tree.Query.{Query}
+use Rattle.bt_tree.specs.declared.tree.Query.TheVariants as e
+use Rattle.bt_tree.specs.declared.tree.Branch.{Branch}
 use Rattle.bt_syntax.specs.Lexemes.{Lexemes, reserved}
 use Rattle.bt_syntax.specs.Grammar as g
 use Rattle.bt_syntax.specs.Grammar.{IsReserved, IsPlain, IsBlock, IsBranch, AreElses, IsIf, Nested}

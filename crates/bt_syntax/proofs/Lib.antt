@@ -12,7 +12,6 @@ pub mod Takes
 pub mod Turns
 pub mod Progress
 pub mod FirstTokens
-pub mod Layers
 pub mod ArgumentLemmas
 pub mod HeadLemmas
 pub mod CountLemmas

@@ -4,9 +4,9 @@ use Rattle.bt_lexer.specs.declared.token.Kind.{Kind}
 use Rattle.bt_lexer.specs.declared.token.Kind.TheVariants as kinds
 use Rattle.bt_syntax.specs.declared.keywords.Keyword.{Keyword}
 use Rattle.bt_syntax.specs.declared.keywords.Keyword.TheVariants as w
-use Rattle.bt_syntax.specs.declared.tree.Query.{Query, out-Query}
-use Rattle.bt_syntax.specs.declared.tree.Query.TheOpen.{Query-F}
-use Rattle.bt_syntax.specs.declared.tree.Query.TheVariants as e
+use Rattle.bt_tree.specs.declared.tree.Query.{Query, out-Query}
+use Rattle.bt_tree.specs.declared.tree.Query.TheOpen.{Query-F}
+use Rattle.bt_tree.specs.declared.tree.Query.TheVariants as e
 use Rattle.bt_syntax.specs.Lexemes.{Lexeme, Lexemes, reserved, number}
 use Rattle.bt_syntax.specs.Rules.{Repeated, none, Behind}
 use Rattle.bt_syntax.specs.Grammar as g
@@ -18,7 +18,7 @@ use Rattle.bt_syntax.proofs.Lawful.{Stops, stops_wider, Lawful, Seq, Nil, Image,
 use Rattle.bt_syntax.proofs.Many.{Begins}
 use Rattle.bt_syntax.proofs.TokenLemmas.{is_kind, rank, below, below_wider, ends_mark, over_rank}
 use Rattle.bt_syntax.proofs.Forms.{behind_lawful, behind_begins, repeated_lawful, repeated_follows, repeated_none}
-use Rattle.bt_syntax.proofs.Layers.{out-Null, out-True, out-False, out-Int, out-Quoted, out-This, out-Root, out-Name, out-Var, out-Metadata, out-Meta, out-Call, out-Paren, out-List, out-Object, out-Item, out-Prefix, out-Product, out-Sum, out-Compare, out-And, out-Or}
+use Rattle.bt_tree.proofs.Layers.{out-Null, out-True, out-False, out-Int, out-Quoted, out-This, out-Root, out-Name, out-Var, out-Metadata, out-Meta, out-Call, out-Paren, out-List, out-Object, out-Item, out-Prefix, out-Product, out-Sum, out-Compare, out-And, out-Or}
 use Rattle.bt_syntax.proofs.OperatorLemmas.{unary_lawful, comparison_lawful}
 
 -- ---- which queries are unary

@@ -8,9 +8,9 @@ use Rattle.bt_value.specs.declared.names.PrefixOp.{PrefixOp}
 use Rattle.bt_value.specs.declared.names.PrefixOp.TheVariants as po
 use Rattle.bt_syntax.specs.declared.keywords.Keyword.{Keyword}
 use Rattle.bt_syntax.specs.declared.keywords.Keyword.TheVariants as w
-use Rattle.bt_syntax.specs.declared.tree.Query.{Query}
-use Rattle.bt_syntax.specs.declared.tree.Query.TheVariants as e
-use Rattle.bt_syntax.specs.declared.tree.Term.{Term}
+use Rattle.bt_tree.specs.declared.tree.Query.{Query}
+use Rattle.bt_tree.specs.declared.tree.Query.TheVariants as e
+use Rattle.bt_tree.specs.declared.tree.Term.{Term}
 use Rattle.bt_syntax.specs.Lexemes.{Lexemes, reserved}
 use Rattle.bt_syntax.specs.Rules.{none}
 use Rattle.bt_syntax.specs.Grammar as g

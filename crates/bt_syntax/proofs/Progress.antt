@@ -4,16 +4,16 @@ use Rattle.bt_lexer.specs.declared.token.Kind.{Kind}
 use Rattle.bt_lexer.specs.declared.token.Kind.TheVariants as k
 use Rattle.bt_syntax.specs.declared.keywords.Keyword.{Keyword}
 use Rattle.bt_syntax.specs.declared.keywords.Keyword.TheVariants as w
-use Rattle.bt_syntax.specs.declared.tree.Key.{Key}
-use Rattle.bt_syntax.specs.declared.tree.Query.{Query}
-use Rattle.bt_syntax.specs.declared.tree.Suffix.{Suffix}
-use Rattle.bt_syntax.specs.declared.tree.Arg.{Arg}
-use Rattle.bt_syntax.specs.declared.tree.Member.{Member}
-use Rattle.bt_syntax.specs.declared.tree.Term.{Term}
-use Rattle.bt_syntax.specs.declared.tree.Case.{Case}
-use Rattle.bt_syntax.specs.declared.tree.Branch.{Branch}
-use Rattle.bt_syntax.specs.declared.tree.MapStmt.{MapStmt}
-use Rattle.bt_syntax.specs.declared.tree.Stmt.{Stmt}
+use Rattle.bt_tree.specs.declared.tree.Key.{Key}
+use Rattle.bt_tree.specs.declared.tree.Query.{Query}
+use Rattle.bt_tree.specs.declared.tree.Suffix.{Suffix}
+use Rattle.bt_tree.specs.declared.tree.Arg.{Arg}
+use Rattle.bt_tree.specs.declared.tree.Member.{Member}
+use Rattle.bt_tree.specs.declared.tree.Term.{Term}
+use Rattle.bt_tree.specs.declared.tree.Case.{Case}
+use Rattle.bt_tree.specs.declared.tree.Branch.{Branch}
+use Rattle.bt_tree.specs.declared.tree.MapStmt.{MapStmt}
+use Rattle.bt_tree.specs.declared.tree.Stmt.{Stmt}
 use Rattle.bt_syntax.specs.Lexemes.{Lexeme, Lexemes}
 use Rattle.bt_syntax.specs.Reading.{Reader, Got, seq, always}
 use Rattle.bt_syntax.specs.Readers as r

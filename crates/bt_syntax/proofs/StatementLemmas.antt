@@ -4,13 +4,13 @@ use Rattle.bt_lexer.specs.declared.token.Kind.{Kind}
 use Rattle.bt_lexer.specs.declared.token.Kind.TheVariants as kinds
 use Rattle.bt_syntax.specs.declared.keywords.Keyword.{Keyword}
 use Rattle.bt_syntax.specs.declared.keywords.Keyword.TheVariants as w
-use Rattle.bt_syntax.specs.declared.tree.Key.{Key}
-use Rattle.bt_syntax.specs.declared.tree.Query.{Query}
-use Rattle.bt_syntax.specs.declared.tree.Query.TheVariants as e
-use Rattle.bt_syntax.specs.declared.tree.MapStmt.{MapStmt}
-use Rattle.bt_syntax.specs.declared.tree.MapStmt.TheVariants as ms
-use Rattle.bt_syntax.specs.declared.tree.Stmt.{Stmt}
-use Rattle.bt_syntax.specs.declared.tree.Stmt.TheVariants as st
+use Rattle.bt_tree.specs.declared.tree.Key.{Key}
+use Rattle.bt_tree.specs.declared.tree.Query.{Query}
+use Rattle.bt_tree.specs.declared.tree.Query.TheVariants as e
+use Rattle.bt_tree.specs.declared.tree.MapStmt.{MapStmt}
+use Rattle.bt_tree.specs.declared.tree.MapStmt.TheVariants as ms
+use Rattle.bt_tree.specs.declared.tree.Stmt.{Stmt}
+use Rattle.bt_tree.specs.declared.tree.Stmt.TheVariants as st
 use Rattle.bt_syntax.specs.Lexemes.{Lexeme, Lexemes}
 use Rattle.bt_syntax.specs.Rules.{Repeated, Separated, Behind, Bracketed, Optional}
 use Rattle.bt_syntax.specs.Grammar as g

@@ -4,20 +4,20 @@ use Rattle.bt_lexer.specs.declared.token.Kind.{Kind}
 use Rattle.bt_lexer.specs.declared.token.Kind.TheVariants as kinds
 use Rattle.bt_syntax.specs.declared.keywords.Keyword.{Keyword}
 use Rattle.bt_syntax.specs.declared.keywords.Keyword.TheVariants as w
-use Rattle.bt_syntax.specs.declared.tree.Key.{Key}
-use Rattle.bt_syntax.specs.declared.tree.Key.TheVariants as key
-use Rattle.bt_syntax.specs.declared.tree.Query.{Query, out-Query}
-use Rattle.bt_syntax.specs.declared.tree.Query.TheOpen.{Query-F}
-use Rattle.bt_syntax.specs.declared.tree.Query.TheVariants as node
-use Rattle.bt_syntax.specs.declared.tree.Suffix.{Suffix}
-use Rattle.bt_syntax.specs.declared.tree.Suffix.TheVariants as s
+use Rattle.bt_tree.specs.declared.tree.Key.{Key}
+use Rattle.bt_tree.specs.declared.tree.Key.TheVariants as key
+use Rattle.bt_tree.specs.declared.tree.Query.{Query, out-Query}
+use Rattle.bt_tree.specs.declared.tree.Query.TheOpen.{Query-F}
+use Rattle.bt_tree.specs.declared.tree.Query.TheVariants as node
+use Rattle.bt_tree.specs.declared.tree.Suffix.{Suffix}
+use Rattle.bt_tree.specs.declared.tree.Suffix.TheVariants as s
 use Rattle.bt_syntax.specs.Lexemes.{Lexeme, Lexemes, reserved, number}
 use Rattle.bt_syntax.specs.Rules.{Repeated, none, more, Behind, behind}
 use Rattle.bt_syntax.specs.Grammar as g
 use Rattle.bt_syntax.specs.Grammar.{IsReserved, word, key_of, key_in, segment_of, segment_in, head_in, token_head, reserved_head, IsKey, AreKeys, IsHead, IsSuffix, IsItem, IsUnary, IsProduct, IsSum, IsComparison, IsLogic, IsPlain, IsMatch, IsIf, IsQuery}
 use Rattle.bt_syntax.specs.Readers.{root_in, root_of, target_keys, key_and, target_from, target_in, target_of}
 use Rattle.bt_syntax.proofs.TokenLemmas.{word_kind}
-use Rattle.bt_syntax.proofs.Layers.{out-Null, out-True, out-False, out-Int, out-Quoted, out-This, out-Root, out-Name, out-Var, out-Metadata, out-Meta, out-Call, out-Paren, out-List, out-Object, out-Item, out-Prefix, out-Product, out-Sum, out-Compare, out-And, out-Or, out-Coalesce, out-Match, out-If}
+use Rattle.bt_tree.proofs.Layers.{out-Null, out-True, out-False, out-Int, out-Quoted, out-This, out-Root, out-Name, out-Var, out-Metadata, out-Meta, out-Call, out-Paren, out-List, out-Object, out-Item, out-Prefix, out-Product, out-Sum, out-Compare, out-And, out-Or, out-Coalesce, out-Match, out-If}
 
 -- the tokens are `root` at a place, and keys behind it
 pub record Target (at : ℕ) (xs : List Key) (u : Lexemes) : Type 0 where

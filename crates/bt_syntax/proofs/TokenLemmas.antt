@@ -10,7 +10,7 @@ use Rattle.bt_syntax.specs.declared.keywords.Keyword.TheVariants as w
 use Rattle.bt_syntax.specs.contracts.keywords.Keyword as keyword
 use Rattle.bt_syntax.specs.Lexemes.{Lexeme, reserved, reserved_in}
 use Rattle.bt_syntax.specs.Brackets.{step}
-use Rattle.bt_syntax.specs.declared.tree.Key.{Key}
+use Rattle.bt_tree.specs.declared.tree.Key.{Key}
 use Rattle.bt_syntax.specs.Grammar.{IsReserved, key_in, free_in, is_free}
 use Rattle.bt_syntax.specs.Readers.{is, is_reserved, same_keyword, only, is_key}
 

@@ -8,14 +8,14 @@ use Rattle.bt_lexer.specs.Strings.{is_plain}
 use Rattle.bt_lexer.specs.Tokens.{int_value}
 use Rattle.bt_lexer.specs.declared.token.Kind.TheVariants as kinds
 use Rattle.bt_lexer.specs.declared.token.Token.{Token}
-use Rattle.bt_syntax.specs.declared.tree.Mapping.{Mapping}
-use Rattle.bt_syntax.specs.declared.tree.Mapping.TheVariants as mappings
-use Rattle.bt_syntax.specs.declared.tree.Query.{Query, out-Query}
-use Rattle.bt_syntax.specs.declared.tree.Query.TheOpen.{Query-F}
-use Rattle.bt_syntax.specs.declared.tree.Query.TheVariants as queries
-use Rattle.bt_syntax.specs.declared.tree.Stmt.TheVariants as stmts
-use Rattle.bt_syntax.specs.declared.tree.Suffix.{Suffix}
-use Rattle.bt_syntax.specs.declared.tree.Suffix.TheVariants as suffixes
+use Rattle.bt_tree.specs.declared.tree.Mapping.{Mapping}
+use Rattle.bt_tree.specs.declared.tree.Mapping.TheVariants as mappings
+use Rattle.bt_tree.specs.declared.tree.Query.{Query, out-Query}
+use Rattle.bt_tree.specs.declared.tree.Query.TheOpen.{Query-F}
+use Rattle.bt_tree.specs.declared.tree.Query.TheVariants as queries
+use Rattle.bt_tree.specs.declared.tree.Stmt.TheVariants as stmts
+use Rattle.bt_tree.specs.declared.tree.Suffix.{Suffix}
+use Rattle.bt_tree.specs.declared.tree.Suffix.TheVariants as suffixes
 
 -- the bytes of a token
 abbrev pub bytes_of : List ℕ → Token → List ℕ

@@ -7,11 +7,11 @@ use Rattle.bt_syntax.specs.declared.fault.SyntaxFault.{SyntaxFault}
 use Rattle.bt_syntax.specs.declared.fault.SyntaxFault.TheVariants as fault
 use Rattle.bt_syntax.specs.declared.stop.Stop.{Stop}
 use Rattle.bt_syntax.specs.declared.stop.Stop.TheVariants as stop
-use Rattle.bt_syntax.specs.declared.tree.Query.{Query}
-use Rattle.bt_syntax.specs.declared.tree.Key.{Key}
-use Rattle.bt_syntax.specs.declared.tree.Key.TheVariants as keys
-use Rattle.bt_syntax.specs.declared.tree.Suffix.{Suffix}
-use Rattle.bt_syntax.specs.declared.tree.Suffix.TheVariants as s
+use Rattle.bt_tree.specs.declared.tree.Query.{Query}
+use Rattle.bt_tree.specs.declared.tree.Key.{Key}
+use Rattle.bt_tree.specs.declared.tree.Key.TheVariants as keys
+use Rattle.bt_tree.specs.declared.tree.Suffix.{Suffix}
+use Rattle.bt_tree.specs.declared.tree.Suffix.TheVariants as s
 use Rattle.bt_syntax.specs.Lexemes.{Lexeme, Lexemes}
 use Rattle.bt_syntax.specs.Places.{place_of}
 use Rattle.bt_syntax.specs.Reading.{Res, Got, Stuck, Deep}

@@ -8,26 +8,26 @@ use Rattle.bt_value.specs.declared.names.PrefixOp.{PrefixOp}
 use Rattle.bt_value.specs.declared.names.PrefixOp.TheVariants as po
 use Rattle.bt_syntax.specs.declared.keywords.Keyword.{Keyword}
 use Rattle.bt_syntax.specs.declared.keywords.Keyword.TheVariants as w
-use Rattle.bt_syntax.specs.declared.tree.Word.{Word}
-use Rattle.bt_syntax.specs.declared.tree.Key.{Key}
-use Rattle.bt_syntax.specs.declared.tree.Key.TheVariants as key
-use Rattle.bt_syntax.specs.declared.tree.Query.{Query}
-use Rattle.bt_syntax.specs.declared.tree.Query.TheVariants as e
-use Rattle.bt_syntax.specs.declared.tree.Suffix.{Suffix}
-use Rattle.bt_syntax.specs.declared.tree.Suffix.TheVariants as s
-use Rattle.bt_syntax.specs.declared.tree.Arg.{Arg}
-use Rattle.bt_syntax.specs.declared.tree.Arg.TheVariants as a
-use Rattle.bt_syntax.specs.declared.tree.Member.{Member}
-use Rattle.bt_syntax.specs.declared.tree.Term.{Term}
-use Rattle.bt_syntax.specs.declared.tree.Case.{Case}
-use Rattle.bt_syntax.specs.declared.tree.Case.TheVariants as case
-use Rattle.bt_syntax.specs.declared.tree.Branch.{Branch}
-use Rattle.bt_syntax.specs.declared.tree.MapStmt.{MapStmt}
-use Rattle.bt_syntax.specs.declared.tree.MapStmt.TheVariants as ms
-use Rattle.bt_syntax.specs.declared.tree.Stmt.{Stmt}
-use Rattle.bt_syntax.specs.declared.tree.Stmt.TheVariants as st
-use Rattle.bt_syntax.specs.declared.tree.Mapping.{Mapping}
-use Rattle.bt_syntax.specs.declared.tree.Mapping.TheVariants as m
+use Rattle.bt_tree.specs.declared.tree.Word.{Word}
+use Rattle.bt_tree.specs.declared.tree.Key.{Key}
+use Rattle.bt_tree.specs.declared.tree.Key.TheVariants as key
+use Rattle.bt_tree.specs.declared.tree.Query.{Query}
+use Rattle.bt_tree.specs.declared.tree.Query.TheVariants as e
+use Rattle.bt_tree.specs.declared.tree.Suffix.{Suffix}
+use Rattle.bt_tree.specs.declared.tree.Suffix.TheVariants as s
+use Rattle.bt_tree.specs.declared.tree.Arg.{Arg}
+use Rattle.bt_tree.specs.declared.tree.Arg.TheVariants as a
+use Rattle.bt_tree.specs.declared.tree.Member.{Member}
+use Rattle.bt_tree.specs.declared.tree.Term.{Term}
+use Rattle.bt_tree.specs.declared.tree.Case.{Case}
+use Rattle.bt_tree.specs.declared.tree.Case.TheVariants as case
+use Rattle.bt_tree.specs.declared.tree.Branch.{Branch}
+use Rattle.bt_tree.specs.declared.tree.MapStmt.{MapStmt}
+use Rattle.bt_tree.specs.declared.tree.MapStmt.TheVariants as ms
+use Rattle.bt_tree.specs.declared.tree.Stmt.{Stmt}
+use Rattle.bt_tree.specs.declared.tree.Stmt.TheVariants as st
+use Rattle.bt_tree.specs.declared.tree.Mapping.{Mapping}
+use Rattle.bt_tree.specs.declared.tree.Mapping.TheVariants as m
 use Rattle.bt_syntax.specs.Lexemes.{Lexeme, Lexemes, number, reserved}
 use Rattle.bt_syntax.specs.Rules.{Repeated, Listed, Separated, Behind, Bracketed, Optional}
 

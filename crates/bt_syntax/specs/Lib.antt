@@ -10,4 +10,3 @@ pub mod Reading
 pub mod Readers
 pub mod Code
 pub mod Cursor
-pub mod Same

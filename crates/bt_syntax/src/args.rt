@@ -9,9 +9,9 @@ ghost use Rattle.bt_syntax.specs.Readers as spec;
 use crate::cursor::Cursor;
 use crate::grammar::Grammar;
 use crate::stop::Stop;
-use crate::tree::{Arg, Query};
 use bt_lexer::Kind;
 use bt_ports::text::Text;
+use bt_tree::{Arg, Query};
 use sqlite_items::Items;
 use std::alloc::Global;
 

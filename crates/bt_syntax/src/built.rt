@@ -15,15 +15,12 @@ ghost use Rattle.bt_syntax.specs.Built.{BuiltReading, IsBuilt};
 ghost use Rattle.bt_syntax.specs.BuiltTokens as parts;
 ghost use Rattle.bt_syntax.specs.Grammar.{ReadsMapping};
 ghost use Rattle.bt_syntax.specs.Lexemes.{lexemes};
-ghost use Rattle.bt_syntax.specs.declared.tree.Mapping.{Mapping};
+ghost use Rattle.bt_tree.specs.declared.tree.Mapping.{Mapping};
 
-#[cfg(test)]
-mod tests;
-
-use crate::tree::{Mapping, Query, Stmt, Suffix, Word};
 use bt_lexer::{Kind, Token, Tokens, int_value, piece, place, text_value};
 use bt_ports::NoMemory;
 use bt_ports::text::Text;
+use bt_tree::{Mapping, Query, Stmt, Suffix, Word};
 use sqlite_items::{Boxed, Items};
 use std::alloc::Global;
 

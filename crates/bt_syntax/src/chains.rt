@@ -8,8 +8,8 @@ ghost use Rattle.bt_syntax.specs.Readers as spec;
 use crate::cursor::Cursor;
 use crate::grammar::Grammar;
 use crate::stop::Stop;
-use crate::tree::{Query, Term};
 use bt_lexer::Kind;
+use bt_tree::{Query, Term};
 use sqlite_items::{Boxed, Items};
 use std::alloc::{AllocError, Global};
 

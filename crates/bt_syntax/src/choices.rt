@@ -9,8 +9,8 @@ use crate::cursor::Cursor;
 use crate::grammar::Grammar;
 use crate::keywords::Keyword;
 use crate::stop::Stop;
-use crate::tree::{Branch, Case, Query};
 use bt_lexer::Kind;
+use bt_tree::{Branch, Case, Query};
 use sqlite_items::{Boxed, Items};
 use std::alloc::Global;
 

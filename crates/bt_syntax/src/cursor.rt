@@ -20,10 +20,10 @@ use crate::operators::{
     comparison_op, prefix_op, product_op, separates_cases, separates_statements, sum_op,
 };
 use crate::stop::Stop;
-use crate::tree::{Key, Query, Suffix, Word};
 use bt_lexer::{Kind, Token};
 use bt_ports::NoMemory;
 use bt_ports::text::Text;
+use bt_tree::{Key, Query, Suffix, Word};
 use bt_value::{Op, PrefixOp};
 use std::alloc::Global;
 use std::marker::Model;

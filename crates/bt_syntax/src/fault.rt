@@ -8,7 +8,7 @@ pub enum SyntaxFault {
     /// The tokens have no reading.
     #[error("syntax at byte {at}")]
     Syntax {
-        /// The place of the first token that ends no front of a readable list, or the text's length
+        /// The place of the first token that ends no prefix of a readable list, or the text's length
         /// where the tokens only stop too soon.
         at: usize,
     },

@@ -8,7 +8,7 @@ ghost use Rattle.bt_syntax.specs.Readers as spec;
 
 use crate::cursor::Cursor;
 use crate::stop::Stop;
-use crate::tree::Query;
+use bt_tree::Query;
 use std::alloc::Global;
 
 /// The readers, inside so many brackets.

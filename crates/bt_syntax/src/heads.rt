@@ -7,8 +7,8 @@ use crate::cursor::Cursor;
 use crate::grammar::Grammar;
 use crate::keywords::Keyword;
 use crate::stop::Stop;
-use crate::tree::{Member, Query};
 use bt_lexer::Kind;
+use bt_tree::{Member, Query};
 use sqlite_items::{Boxed, Items};
 use std::alloc::Global;
 

@@ -1,7 +1,7 @@
 //! What the grammar itself satisfies.
 
 ghost use Rattle.std.specs.Prelude.{◌≡◌, ◌⊎◌, List};
-ghost use Rattle.bt_syntax.specs.declared.tree.Mapping.{Mapping};
+ghost use Rattle.bt_tree.specs.declared.tree.Mapping.{Mapping};
 ghost use Rattle.bt_syntax.specs.Lexemes.{Lexeme};
 ghost use Rattle.bt_syntax.specs.Places.{FirstBad};
 ghost use Rattle.bt_syntax.specs.Grammar.{ReadsMapping, ReadsCheck};

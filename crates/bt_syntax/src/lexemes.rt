@@ -12,10 +12,10 @@ ghost use Rattle.bt_syntax.specs.Code.{Makes};
 
 use crate::keywords::{Keyword, keyword_of};
 use crate::stop::Stop;
-use crate::tree::{Key, Query, Suffix, Word};
 use bt_lexer::{Kind, Token, int_value, piece, text_value};
 use bt_ports::NoMemory;
 use bt_ports::text::Text;
+use bt_tree::{Key, Query, Suffix, Word};
 use std::alloc::Global;
 
 /// A variable's name.

@@ -1,10 +1,10 @@
 //! From the tokens of a text to its mapping.
 
-ghost use Rattle.std.specs.Prelude.{◌≡◌, None, Err, IfOk, IfErr, length};
+ghost use Rattle.std.specs.Prelude.{◌≡◌, Some, None, Err, IfOk, IfErr, length};
 ghost use Rattle.bt_lexer.specs.Lines.{HasTokens};
 ghost use Rattle.bt_syntax.specs.Brackets.{deep_at};
 ghost use Rattle.bt_syntax.specs.Lexemes.{lexemes};
-ghost use Rattle.bt_syntax.specs.Places.{Refuses};
+ghost use Rattle.bt_syntax.specs.Places.{IsTooDeep, Refuses};
 ghost use Rattle.bt_syntax.specs.Grammar.{ReadsMapping, ReadsCheck};
 ghost use Rattle.bt_syntax.specs.Code.{ended};
 
@@ -13,8 +13,8 @@ use crate::cursor::Cursor;
 use crate::fault::SyntaxFault;
 use crate::grammar::{Grammar, query};
 use crate::stop::Stop;
-use crate::tree::Mapping;
 use bt_lexer::{Tokens, spans_rise};
+use bt_tree::Mapping;
 use std::alloc::Global;
 
 /// What is answered where a reader has ended, with tokens left or none.
@@ -36,6 +36,20 @@ fn answer(found: Result<Mapping, Stop>, c: &Cursor<'_>, end: usize) -> Result<Ma
     }
 }
 
+/// A cursor before the tokens of a text, or the place of a bracket too deep.
+fn opened<'a>(text: &'a str, tokens: &'a Tokens) -> Result<Cursor<'a>, SyntaxFault>
+    requires { HasTokens text.now tokens.now.list }
+    ensures start { IfOk result (λ c. c ≡ lexemes text.now tokens.now.list) }
+    ensures shallow { IfOk result (λ c. deep_at 0 (lexemes text.now tokens.now.list) ≡ None) }
+    ensures deep { IfErr result (λ e. IsTooDeep (lexemes text.now tokens.now.list) e) }
+{
+    spans_rise();
+    match too_deep(tokens.as_slice()) {
+        Some(at) => Err(SyntaxFault::TooDeep { at }),
+        None => Ok(Cursor::new(text, tokens.as_slice())),
+    }
+}
+
 /// The mapping that the tokens of a text are read as, or why they aren't one. It reads the tokens
 /// once for their brackets and once for the rest, and the text once for its lines.
 ///
@@ -48,11 +62,7 @@ pub fn parse(alloc: Global, text: &str, tokens: &Tokens) -> Result<Mapping, Synt
     ensures refused { IfErr result
         (λ e. Refuses ReadsMapping (lexemes text.now tokens.now.list) (length text.now) e) }
 {
-    spans_rise();
-    if let Some(at) = too_deep(tokens.as_slice()) {
-        return Err(SyntaxFault::TooDeep { at });
-    }
-    let mut c = Cursor::new(text, tokens.as_slice());
+    let mut c = opened(text, tokens)?;
     let found = Grammar {
         alloc,
         depth: MAX_OPEN,
@@ -72,11 +82,7 @@ pub fn parse_check(alloc: Global, text: &str, tokens: &Tokens) -> Result<Mapping
     ensures refused { IfErr result
         (λ e. Refuses ReadsCheck (lexemes text.now tokens.now.list) (length text.now) e) }
 {
-    spans_rise();
-    if let Some(at) = too_deep(tokens.as_slice()) {
-        return Err(SyntaxFault::TooDeep { at });
-    }
-    let mut c = Cursor::new(text, tokens.as_slice());
+    let mut c = opened(text, tokens)?;
     let found = Grammar {
         alloc,
         depth: MAX_OPEN,

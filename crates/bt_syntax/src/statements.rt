@@ -11,8 +11,8 @@ use crate::grammar::Grammar;
 use crate::keywords::Keyword;
 use crate::stop::Stop;
 use crate::targets::{is_target, target};
-use crate::tree::{Key, MapStmt, Mapping, Query, Stmt};
 use bt_lexer::Kind;
+use bt_tree::{Key, MapStmt, Mapping, Query, Stmt};
 use sqlite_items::Items;
 use std::alloc::Global;
 

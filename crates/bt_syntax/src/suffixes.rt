@@ -7,8 +7,8 @@ ghost use Rattle.bt_syntax.specs.Readers as spec;
 use crate::cursor::Cursor;
 use crate::grammar::Grammar;
 use crate::stop::Stop;
-use crate::tree::{Query, Suffix};
 use bt_lexer::Kind;
+use bt_tree::{Query, Suffix};
 use sqlite_items::{Boxed, Items};
 use std::alloc::{AllocError, Global};
 

@@ -5,7 +5,7 @@ ghost use Rattle.std.specs.List.{list_all};
 ghost use Rattle.bt_syntax.specs.Readers as spec;
 ghost use Rattle.bt_syntax.specs.Code.{key_in};
 
-use crate::tree::{Key, Query, Suffix};
+use bt_tree::{Key, Query, Suffix};
 use sqlite_items::Items;
 use std::alloc::{AllocError, Global};
 

@@ -11,7 +11,7 @@ use Rattle.bt_syntax.specs.Lexemes.{Lexeme, Lexemes, lexemes}
 use Rattle.bt_syntax.specs.Places.{Refuses, place_of}
 use Rattle.bt_syntax.specs.declared.fault.SyntaxFault.{SyntaxFault}
 use Rattle.bt_syntax.specs.declared.fault.SyntaxFault.TheVariants as parser
-use Rattle.bt_syntax.specs.declared.tree.Mapping.{Mapping}
+use Rattle.bt_tree.specs.declared.tree.Mapping.{Mapping}
 use Rattle.bt_top.specs.BloblRun.{IsUnread}
 use Rattle.bt_top.specs.BloblText.{IsOtherForm, IsWithin, TextSays, TokensSay, lexer_course, parser_course}
 use Rattle.bt_top.specs.declared.blobl.course.BloblCourse.{BloblCourse}

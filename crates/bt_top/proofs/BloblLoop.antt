@@ -4,7 +4,7 @@ use Rattle.bt_ports.specs.World.{Tale, StillTells}
 use Rattle.bt_ports.specs.declared.outside.Source as Source
 use Rattle.bt_intake.specs.Sources.{all_tell}
 use Rattle.bt_intake.specs.View.{LineView}
-use Rattle.bt_syntax.specs.declared.tree.Mapping.{Mapping}
+use Rattle.bt_tree.specs.declared.tree.Mapping.{Mapping}
 use Rattle.bt_top.specs.Blobl.{outcome, printed_of, error_of, fails, blobl_text, blobl_errors, errors_from, some_fail}
 use Rattle.bt_top.specs.BloblLines.{Done, Going, Gave, GaveNext, Halted, Passed, SameLines, Turned, all_lines}
 use Rattle.bt_top.specs.declared.blobl.course.Stop.{Stop}

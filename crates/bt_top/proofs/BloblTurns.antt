@@ -9,7 +9,7 @@ use Rattle.bt_ports.specs.declared.parts.Next.{Next}
 use Rattle.bt_intake.specs.Lines.{batches}
 use Rattle.bt_intake.specs.Sources.{all_tell, told}
 use Rattle.bt_intake.specs.View.{LineView}
-use Rattle.bt_syntax.specs.declared.tree.Mapping.{Mapping}
+use Rattle.bt_tree.specs.declared.tree.Mapping.{Mapping}
 use Rattle.bt_top.specs.Blobl.{line_bytes, outcome}
 use Rattle.bt_top.specs.BloblLines.{Ends, Turns, Turned, Halted, SameLines, IsBreak, AnswerIs, GaveNext, all_lines, Breaks}
 use Rattle.bt_top.specs.declared.blobl.course.Stop.{Stop}

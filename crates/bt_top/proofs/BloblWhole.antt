@@ -13,7 +13,7 @@ use Rattle.bt_intake.specs.Lines.{batches, stop, SourceBytes}
 use Rattle.bt_intake.specs.Sources.{all_tell, told, taken_count, fault_count, SourceKept, SourcesKept}
 use Rattle.bt_intake.specs.View.{LineView}
 use Rattle.bt_syntax.specs.Built.{BuiltReading}
-use Rattle.bt_syntax.specs.declared.tree.Mapping.{Mapping}
+use Rattle.bt_tree.specs.declared.tree.Mapping.{Mapping}
 use Rattle.bt_top.specs.Blobl.{outcome, blobl_text, blobl_errors, lines_of, line_bytes}
 use Rattle.bt_top.specs.BloblLines.{AnswerIs, Gave, Passed, PrintsOnly, all_lines}
 use Rattle.bt_top.proofs.BloblLoop.{joined}

@@ -1,7 +1,7 @@
 -- What `blobl` prints and says of the lines of its input.
 use Rattle.std.specs.Prelude.{ℕ, suc, List, [], ◌∷◌, ◌++◌, map, Bool, true, false, ◌||◌, Option, Some, None, codes, decimal}
 use Rattle.bt_ports.specs.declared.parts.Item.{Item}
-use Rattle.bt_syntax.specs.declared.tree.Mapping.{Mapping}
+use Rattle.bt_tree.specs.declared.tree.Mapping.{Mapping}
 use Rattle.bt_eval.specs.Mapped.{mapped}
 use Rattle.bt_eval.specs.Meaning.{this_fault}
 use Rattle.bt_eval.specs.declared.run.Mapped.{Mapped}

@@ -7,7 +7,7 @@ use Rattle.bt_ports.specs.declared.parts.Next.TheVariants as next
 use Rattle.bt_intake.specs.Lines.{batches}
 use Rattle.bt_intake.specs.Sources.{all_tell, told}
 use Rattle.bt_intake.specs.View.{LineView}
-use Rattle.bt_syntax.specs.declared.tree.Mapping.{Mapping}
+use Rattle.bt_tree.specs.declared.tree.Mapping.{Mapping}
 use Rattle.bt_top.specs.Blobl.{line_bytes, outcome, printed_of, error_of, fails, blobl_text, blobl_errors, some_fail}
 use Rattle.bt_top.specs.declared.blobl.course.Stop.{Stop}
 use Rattle.bt_top.specs.declared.blobl.course.Stop.TheVariants as stops

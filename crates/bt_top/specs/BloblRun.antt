@@ -10,7 +10,7 @@ use Rattle.bt_ports.specs.Intake.{input_end, bound_met}
 use Rattle.bt_intake.specs.Lines.{batches, stop}
 use Rattle.bt_intake.specs.View.{LineView}
 use Rattle.bt_syntax.specs.Built.{BuiltReading}
-use Rattle.bt_syntax.specs.declared.tree.Mapping.{Mapping}
+use Rattle.bt_tree.specs.declared.tree.Mapping.{Mapping}
 use Rattle.bt_lexer.specs.Places.{line_of, column_of}
 use Rattle.bt_top.specs.BloblText.{TextSays, fault_line}
 use Rattle.bt_top.specs.Blobl.{outcome, blobl_text, blobl_errors, some_fail, lines_of}

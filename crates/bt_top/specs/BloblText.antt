@@ -11,7 +11,7 @@ use Rattle.bt_syntax.specs.Lexemes.{lexemes}
 use Rattle.bt_syntax.specs.Places.{Refuses}
 use Rattle.bt_syntax.specs.declared.fault.SyntaxFault.{SyntaxFault}
 use Rattle.bt_syntax.specs.declared.fault.SyntaxFault.TheVariants as parser
-use Rattle.bt_syntax.specs.declared.tree.Mapping.{Mapping}
+use Rattle.bt_tree.specs.declared.tree.Mapping.{Mapping}
 use Rattle.bt_top.specs.declared.blobl.course.BloblCourse.{BloblCourse}
 use Rattle.bt_top.specs.declared.blobl.course.BloblCourse.TheVariants as course
 use Rattle.bt_top.specs.declared.blobl.course.MappingFault.{MappingFault}

@@ -3,7 +3,7 @@ ghost use Rattle.std.specs.Prelude.{◌≡◌, ℕ, ◌+◌, ◌≤◌, List, []
 ghost use Rattle.bt_intake.specs.Answers.{Standing};
 ghost use Rattle.bt_ports.specs.World.{StillTells};
 ghost use Rattle.bt_syntax.specs.Built.{BuiltReading, IsBuilt};
-ghost use Rattle.bt_syntax.specs.declared.tree.Mapping.{Mapping};
+ghost use Rattle.bt_tree.specs.declared.tree.Mapping.{Mapping};
 ghost use Rattle.bt_top.specs.BloblRun.{BloblCounts, BloblGoes, BloblWent, IsFreshInput, IsNoOpening, IsReading, IsUnread, OpensInput, OpensNone, blobl_lines, blobl_status, pass_status, stop_lines};
 ghost use Rattle.bt_lexer.specs.Lines.{HasTokens};
 ghost use Rattle.bt_top.specs.BloblText.{IsWithin, TextSays, TokensSay, lexer_course, parser_course};
@@ -23,8 +23,9 @@ use bt_ports::NoMemory;
 use bt_ports::outside::Source;
 use bt_ports::parts::{Named, Opened};
 use bt_ports::world::World;
-use bt_syntax::tree::Mapping;
-use bt_syntax::{Ready, SyntaxFault, parse, read_built};
+use bt_ready::Ready;
+use bt_syntax::{SyntaxFault, parse, read_built};
+use bt_tree::Mapping;
 use std::alloc::Global;
 
 // Why a text without tokens is no mapping.

@@ -14,7 +14,7 @@ use bt_intake::intake::LineIntake;
 use bt_ports::outside::{Intake, Source};
 use bt_ports::parts::Next;
 use bt_ports::world::World;
-use bt_syntax::Ready;
+use bt_ready::Ready;
 use std::alloc::Global;
 
 // Maps the next line, which is the n-th, and gives whether its mapping failed.

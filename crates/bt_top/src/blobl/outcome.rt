@@ -14,7 +14,7 @@ use bt_ports::blob::Blob;
 use bt_ports::parts::{Items, PrintFailed};
 use bt_ports::text::Text;
 use bt_ports::world::World;
-use bt_syntax::Ready;
+use bt_ready::Ready;
 use bt_value::{Fields, Msg};
 use std::alloc::Global;
 

@@ -1,4 +1,4 @@
-use Rattle.bt_syntax.specs.declared.tree.Mapping.{Mapping}
+use Rattle.bt_tree.specs.declared.tree.Mapping.{Mapping}
 use Rattle.bt_syntax.specs.Grammar.{ReadsMapping, ReadsCheck}
 use Rattle.bt_syntax.proofs.FirstBadLemmas.{one_place}
 use Rattle.bt_syntax.proofs.MappingLemmas.{one_mapping, one_check, mapping_or_bad, check_or_bad}

@@ -1,17 +1,17 @@
 -- Mappings without their places and lines: what a mapping and its printed text agree in.
 use Rattle.std.specs.Prelude.{◌≡◌, map}
-use Rattle.bt_syntax.specs.declared.tree.Word.{Word}
-use Rattle.bt_syntax.specs.declared.tree.Query.{Query, fold-Query, roll-Query}
-use Rattle.bt_syntax.specs.declared.tree.Query.TheVariants as e
-use Rattle.bt_syntax.specs.declared.tree.Query.TheOpen.{Query-F}
-use Rattle.bt_syntax.specs.declared.tree.Suffix.{Suffix}
-use Rattle.bt_syntax.specs.declared.tree.Suffix.TheVariants as s
-use Rattle.bt_syntax.specs.declared.tree.MapStmt.{MapStmt}
-use Rattle.bt_syntax.specs.declared.tree.MapStmt.TheVariants as ms
-use Rattle.bt_syntax.specs.declared.tree.Stmt.{Stmt}
-use Rattle.bt_syntax.specs.declared.tree.Stmt.TheVariants as st
-use Rattle.bt_syntax.specs.declared.tree.Mapping.{Mapping}
-use Rattle.bt_syntax.specs.declared.tree.Mapping.TheVariants as m
+use Rattle.bt_tree.specs.declared.tree.Word.{Word}
+use Rattle.bt_tree.specs.declared.tree.Query.{Query, fold-Query, roll-Query}
+use Rattle.bt_tree.specs.declared.tree.Query.TheVariants as e
+use Rattle.bt_tree.specs.declared.tree.Query.TheOpen.{Query-F}
+use Rattle.bt_tree.specs.declared.tree.Suffix.{Suffix}
+use Rattle.bt_tree.specs.declared.tree.Suffix.TheVariants as s
+use Rattle.bt_tree.specs.declared.tree.MapStmt.{MapStmt}
+use Rattle.bt_tree.specs.declared.tree.MapStmt.TheVariants as ms
+use Rattle.bt_tree.specs.declared.tree.Stmt.{Stmt}
+use Rattle.bt_tree.specs.declared.tree.Stmt.TheVariants as st
+use Rattle.bt_tree.specs.declared.tree.Mapping.{Mapping}
+use Rattle.bt_tree.specs.declared.tree.Mapping.TheVariants as m
 
 abbrev pub word_erased : Word → Word
 word_erased w = record { at = 0; text = w.text }

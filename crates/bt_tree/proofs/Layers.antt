@@ -2,17 +2,17 @@
 use Rattle.std.proofs.Common.{◌≡◌, ℕ, ℤ, List, Option, rules}
 use Rattle.bt_value.specs.declared.names.Op.{Op}
 use Rattle.bt_value.specs.declared.names.PrefixOp.{PrefixOp}
-use Rattle.bt_syntax.specs.declared.tree.Word.{Word}
-use Rattle.bt_syntax.specs.declared.tree.Key.{Key}
-use Rattle.bt_syntax.specs.declared.tree.Query.{Query, out-Query, the_lemmas}
-use Rattle.bt_syntax.specs.declared.tree.Query.TheOpen.{Query-F}
-use Rattle.bt_syntax.specs.declared.tree.Query.TheVariants as e
-use Rattle.bt_syntax.specs.declared.tree.Suffix.{Suffix}
-use Rattle.bt_syntax.specs.declared.tree.Arg.{Arg}
-use Rattle.bt_syntax.specs.declared.tree.Member.{Member}
-use Rattle.bt_syntax.specs.declared.tree.Term.{Term}
-use Rattle.bt_syntax.specs.declared.tree.Case.{Case}
-use Rattle.bt_syntax.specs.declared.tree.Branch.{Branch}
+use Rattle.bt_tree.specs.declared.tree.Word.{Word}
+use Rattle.bt_tree.specs.declared.tree.Key.{Key}
+use Rattle.bt_tree.specs.declared.tree.Query.{Query, out-Query, the_lemmas}
+use Rattle.bt_tree.specs.declared.tree.Query.TheOpen.{Query-F}
+use Rattle.bt_tree.specs.declared.tree.Query.TheVariants as e
+use Rattle.bt_tree.specs.declared.tree.Suffix.{Suffix}
+use Rattle.bt_tree.specs.declared.tree.Arg.{Arg}
+use Rattle.bt_tree.specs.declared.tree.Member.{Member}
+use Rattle.bt_tree.specs.declared.tree.Term.{Term}
+use Rattle.bt_tree.specs.declared.tree.Case.{Case}
+use Rattle.bt_tree.specs.declared.tree.Branch.{Branch}
 
 pub out-Null : out-Query (e.Null) ≡ Query-F.Null
 out-Null = search (rules, the_lemmas)

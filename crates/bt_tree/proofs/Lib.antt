@@ -1,0 +1,4 @@
+pub mod Layers
+pub mod MapLayers
+pub mod ErasedLayers
+pub mod LayerErased
