@@ -1,0 +1,6 @@
+mod CivilLemmas
+mod FormatLemmas
+mod DayLemmas
+mod InstantLemmas
+mod SeenLemmas
+mod ExistLemmas
