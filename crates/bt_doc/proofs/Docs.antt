@@ -48,11 +48,14 @@ mutual
   members_short json.no_members = omega arith
   members_short (json.member k j ms) = omega (arith, depth_short j, members_short ms, length-append (json_tokens j) (members_tokens ms))
 
-pub begun_is : (ts : List Token) (j : Json) → BeginsWith ts j → begun ts ≡ of_tree j
-begun_is ts j h =
+pub first_is : (ts : List Token) (j : Json) → (h : BeginsWith ts j) → value (length ts) ts ≡ Some (j, h.1)
+first_is ts j h =
     let back : ts ≡ json_tokens j ++ h.1 = value-json_tokens_back h.0 ts h.1 j h.2 in
     let low : depth j ≤ length ts = omega (arith, depth_short j, length-append (json_tokens j) h.1, ap length back) in
-    ap (option_and_then (λ p. of_tree p.0)) (ap (value (length ts)) back ∙ value-json_tokens j (length ts) h.1 low)
+    ap (value (length ts)) back ∙ value-json_tokens j (length ts) h.1 low
+
+pub begun_is : (ts : List Token) (j : Json) → BeginsWith ts j → begun ts ≡ of_tree j
+begun_is ts j h = ap (option_and_then (λ p. of_tree p.0)) (first_is ts j h)
 
 tree_at : (ts : List Token) (v : Val) (o : Option (Json × List Token)) → value (length ts) ts ≡ o → option_and_then (λ p. of_tree p.0) o ≡ Some v → (j : Json) × BeginsWith ts j × (of_tree j ≡ Some v)
 tree_at ts v None e h = absurd (cc)

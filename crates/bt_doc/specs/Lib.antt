@@ -1,2 +1,3 @@
 pub mod Doc
 pub mod Place
+pub mod Built

@@ -4,6 +4,7 @@
 //! the value that it is, so that a look into it is a look into that value.
 #![tactic(auto)]
 
+mod build;
 pub mod doc;
 pub mod part;
 

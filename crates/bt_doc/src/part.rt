@@ -1,12 +1,15 @@
 //! A value inside a text or a tree.
-ghost use Rattle.std.specs.Prelude.{◌≡◌, option_map, option_and_then};
+ghost use Rattle.std.specs.Prelude.{◌≡◌, option_map, option_and_then, IfOk};
 ghost use Rattle.serde_json.specs.Find.{as_i64};
 ghost use Rattle.serde_json.specs.Read.{number_of};
 ghost use Rattle.bt_doc.specs.Doc.{IsBegun, here, text_in, number_in, bool_in, member_in, item_in};
 ghost use Rattle.bt_value.specs.declared.val.Val.{out-Val};
 
-use bt_value::{Val, json_number};
+use crate::build::value_at;
+use bt_ports::NoMemory;
+use bt_value::{Val, copy, json_number};
 use json::Element;
+use std::alloc::Global;
 use std::marker::Model;
 
 /// A value inside a text that was read, or in a tree, which contracts see as that value.
@@ -44,6 +47,16 @@ impl<'t, 'a> Part<'t, 'a> {
     {
         Part {
             place: Place::Tree(value),
+        }
+    }
+
+    /// A value of its own that is the same.
+    pub fn to_val(&self, alloc: Global) -> Result<Val, NoMemory>
+        ensures { IfOk result (λ v. v ≡ self.now) }
+    {
+        match &self.place {
+            Place::Flat(element) => value_at(alloc, element),
+            Place::Tree(value) => copy(alloc, value),
         }
     }
 
