@@ -1,0 +1,9 @@
+pub mod Counted
+pub mod Open
+pub mod Due
+pub mod Verdicts
+pub mod Ledger
+pub mod Book
+pub mod Kept
+pub mod Calls
+pub mod Pooled
