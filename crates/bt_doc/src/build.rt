@@ -61,11 +61,7 @@ fn built_items(alloc: Global, element: &Element<'_, '_>) -> Result<Vals, NoMemor
         return Ok(found);
     };
     'items: while let Some(item) = items.next() {
-        let value = built(alloc, &item)?;
-        match found.push(value) {
-            Ok(()) => {}
-            Err(_) => return Err(NoMemory),
-        }
+        found.push(built(alloc, &item)?)?;
     }
     Ok(found)
 }

@@ -62,10 +62,8 @@ impl<V: Drop> FieldsBuilder<V> {
         {
             return self.members.put(key, value);
         }
-        match self.late.push((key, value)) {
-            Ok(()) => Ok(()),
-            Err(_) => Err(NoMemory),
-        }
+        self.late.push((key, value))?;
+        Ok(())
     }
 
     /// The members.
@@ -102,10 +100,7 @@ fn put_pairs<V: Drop>(
         ≡ put_all (map (λ e. (string_bytes e.0, e.1)) sorted.old.entries) pairs.items) }
 {
     for (key, value) in pairs {
-        match sorted.insert(key.into_string(), value) {
-            Ok(_) => {}
-            Err(_) => return Err(NoMemory),
-        }
+        sorted.insert(key.into_string(), value)?;
     }
     Ok(())
 }

@@ -92,8 +92,8 @@ built_items-items-preserved t c =
       omega (arith, l.2, ap items_depth next.2),
       λ total e.
           let so_far = l.3 total e in
-          item_built c.items.found c.push.new.self (marked_items total) next.0 next.1 c.in_ok-value.value so_far.0 (sym (ap of_items next.2) ∙ so_far.1) so_far.2
-          (λ d f. c.in_ok-value.ensures d (ap of_json item ∙ f)) c.in-Ok.ensures.ok,
+          item_built c.items.found c.push.new.self (marked_items total) next.0 next.1 c.in_ok-built.field-0 so_far.0 (sym (ap of_items next.2) ∙ so_far.1) so_far.2
+          (λ d f. c.in_ok-built.ensures d (ap of_json item ∙ f)) c.in_ok-push.ensures.ok,
     )
 
 pub built_items-returns : goal.built_items-returns
