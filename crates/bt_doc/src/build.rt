@@ -15,7 +15,7 @@ use bt_value::{FieldsBuilder, Members, Val, Vals};
 use json::Element;
 use std::alloc::Global;
 
-/// The value at a place whose numbers are all whole numbers of 64 bits.
+/// The value at a place that has one.
 pub(crate) fn value_at(alloc: Global, element: &Element<'_, '_>) -> Result<Val, NoMemory>
     requires { IsBegun element.now }
     ensures { IfOk result (λ v. v ≡ here element.now) }
@@ -23,7 +23,7 @@ pub(crate) fn value_at(alloc: Global, element: &Element<'_, '_>) -> Result<Val, 
     built(alloc, element)
 }
 
-// A number that is none has empty bytes in its place, as one that a later member of the same name takes the place of.
+// A number that is no value has empty bytes in its place: a later member of the same name takes that.
 #[cycle(built)]
 fn built(alloc: Global, element: &Element<'_, '_>) -> Result<Val, NoMemory>
     requires { HasValue element.now }

@@ -7,6 +7,7 @@
 
 mod case;
 mod fault;
+mod looks;
 mod members;
 mod names;
 mod paths;
@@ -28,6 +29,8 @@ fn outcome(alloc: Global, case: Case<'_>) -> Result<String, Fault> {
         "copy" => texts::copied(alloc, case.field("text")),
         "compare" => texts::compared(alloc, case.field("left"), case.field("right")),
         "deeper" => texts::is_deeper(alloc, case.field("text"), case.number("limit")),
+        "look" => looks::in_text(alloc, case),
+        "look in tree" => looks::in_tree(alloc, case),
         "get" => paths::get(alloc, case),
         "set" => paths::set(alloc, case),
         "delete" => paths::delete(alloc, case),
