@@ -8,5 +8,3 @@ pub mod intake;
 mod line;
 mod reader;
 mod reading;
-#[cfg(test)]
-mod tests;
