@@ -16,7 +16,7 @@ use Rattle.bt_syntax.specs.Grammar as g
 use Rattle.bt_syntax.specs.Grammar.{separates_statements, IsQuery, IsMapStmt, IsStmt, IsMapping, Nested, ReadsMapping}
 use Rattle.bt_words.specs.Printing as print
 use Rattle.bt_words.specs.Printing.{Piece, Space, Line, Token, Pieces, placeless, mark_word, reserved_word, key_word, query}
-use Rattle.bt_words.specs.Layout.{text_of}
+use Rattle.bt_words.specs.Printing.{text_of}
 use Rattle.bt_words.proofs.TextReads.{Apart, Lined, closes_next}
 use Rattle.bt_words.proofs.Layouts.{last_kind, no_lines_append, last_append, lined_append, follow, follow_dot, before_space, closed_mark, Solid, Tail, Steps, steps_none, steps_append, tail_append, tail_none, spaced_tail, worded, space_tail, word_tail, follow_is_dot, end_stops}
 use Rattle.bt_words.proofs.QueriesLaid.{Laid, query_laid, nested_laid, dot_token, key_end, key_cut}

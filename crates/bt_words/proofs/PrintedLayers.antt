@@ -100,8 +100,8 @@ printed-List qs = ap query (sym (e.rolls-List qs)) ∙ fold-roll-Query Pieces qu
 pub printed-Object : (xs : List (Member Query)) → query (e.Object xs) ≡ print.bracketed k.LeftBrace k.RightBrace (print.between print.comma (map of_member xs))
 printed-Object xs = ap query (sym (e.rolls-Object xs)) ∙ fold-roll-Query Pieces query_step (Query-F.Object xs) ∙ ap (λ ys. print.bracketed k.LeftBrace k.RightBrace (print.between print.comma ys)) (fused (in_member query) print.member xs)
 
-pub printed-Item : (q : Query) (xs : List (Suffix Query)) → query (e.Item q xs) ≡ query q ++ (print.gap_between (print.is_int_alone (query q)) (print.begins_with_int (map (in_suffix query) xs)) ++ print.all_of (map of_suffix xs))
-printed-Item q xs = ap query (sym (e.rolls-Item q xs)) ∙ fold-roll-Query Pieces query_step (Query-F.Item q xs) ∙ ap query_step (map-Item query q xs) ∙ ap (λ ys. query q ++ (print.gap_between (print.is_int_alone (query q)) (print.begins_with_int (map (in_suffix query) xs)) ++ print.all_of ys)) (fused (in_suffix query) print.suffix xs)
+pub printed-Item : (q : Query) (xs : List (Suffix Query)) → query (e.Item q xs) ≡ query q ++ (print.gap_between (print.begins_with_digit (print.text_of (query q))) (print.begins_with_int (map (in_suffix query) xs)) ++ print.all_of (map of_suffix xs))
+printed-Item q xs = ap query (sym (e.rolls-Item q xs)) ∙ fold-roll-Query Pieces query_step (Query-F.Item q xs) ∙ ap query_step (map-Item query q xs) ∙ ap (λ ys. query q ++ (print.gap_between (print.begins_with_digit (print.text_of (query q))) (print.begins_with_int (map (in_suffix query) xs)) ++ print.all_of ys)) (fused (in_suffix query) print.suffix xs)
 
 pub printed-Prefix : (op : PrefixOp) (q : Query) → query (e.Prefix op q) ≡ print.mark (print.kind_of_prefix op) ∷ query q
 printed-Prefix op q = ap query (sym (e.rolls-Prefix op q)) ∙ fold-roll-Query Pieces query_step (Query-F.Prefix op q)

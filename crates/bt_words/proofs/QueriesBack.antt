@@ -119,8 +119,8 @@ module _ (I : Query → Lexemes → Type 0) (H : Printable Query I query_erased 
   item_back _ _ (g.head_alone {q} {u} r) = let b = head_back q u r in record { reads = g.head_alone b.reads; kept = b.kept }
   item_back _ _ (g.suffixed {q} {x} {xs} {u} {v} r rs) =
       let b = head_back q u r in
-      let gap = print.gap_between (print.is_int_alone (query q)) (print.begins_with_int (map (in_suffix query) (x ∷ xs))) in
-      let c = fronted gap (gap_words (print.is_int_alone (query q)) (print.begins_with_int (map (in_suffix query) (x ∷ xs)))) (repeated_back suffix_back (x ∷ xs) v rs) in
+      let gap = print.gap_between (print.begins_with_digit (print.text_of (query q))) (print.begins_with_int (map (in_suffix query) (x ∷ xs))) in
+      let c = fronted gap (gap_words (print.begins_with_digit (print.text_of (query q))) (print.begins_with_int (map (in_suffix query) (x ∷ xs)))) (repeated_back suffix_back (x ∷ xs) v rs) in
       moved (erased-Item q (x ∷ xs)) (printed-Item q (x ∷ xs)) (joined (query q) (gap ++ print.all_of (map of_suffix (x ∷ xs))) (g.suffixed b.reads c.reads) b.kept c.kept)
 
   unary_back : Printable Query (IsUnary I) query_erased query

@@ -2,6 +2,9 @@
 use Rattle.std.proofs.Common.{◌≡◌, ℕ, zero, suc, pos, Bool, true, false, ◌&&◌, List, [], ◌∷◌, ◌++◌, map, Option, Some, None, ◌⊎◌, inl, inr, refl, sym, ap, ◌∙◌, subst, append_assoc}
 use Rattle.bt_lexer.specs.declared.token.Kind.{Kind}
 use Rattle.bt_lexer.specs.declared.token.Kind.TheVariants as k
+use Rattle.std.specs.List.{list_all}
+use Rattle.bt_lexer.specs.Bytes.{is_digit}
+use Rattle.bt_lexer.specs.Kinds.{is_number}
 use Rattle.bt_lexer.specs.Tokens.{is_int, is_dot, begins_fraction}
 use Rattle.bt_lexer.specs.Lines.{is_line_feed, is_soft_after}
 use Rattle.bt_value.specs.declared.names.Op.{Op}
@@ -28,11 +31,11 @@ use Rattle.bt_syntax.specs.Grammar as g
 use Rattle.bt_syntax.specs.Grammar.{word, token_head, head_in, reserved_head, segment_of, segment_in, separates_cases, IsArg, IsMember, AreArgs, IsHead, IsSuffix, IsItem, IsUnary, IsFactor, IsProduct, IsTerm, IsSum, IsComparison, IsLogic, IsPlain, IsBlock, IsCase, IsSubject, IsMatch, IsBranch, AreElses, IsIf, IsQuery, Nested}
 use Rattle.bt_tree.specs.Parts.{in_suffix, in_option}
 use Rattle.bt_words.specs.Printing as print
-use Rattle.bt_words.specs.Printing.{Piece, Space, Line, Token, Pieces, placeless, mark_word, reserved_word, key_word, kind_of_op, kind_of_prefix, digits, is_int_kind, is_int_alone, begins_with_int, gap_between, query}
-use Rattle.bt_words.specs.Layout.{text_of}
+use Rattle.bt_words.specs.Printing.{Piece, Space, Line, Token, Pieces, placeless, mark_word, reserved_word, key_word, kind_of_op, kind_of_prefix, digits, begins_with_digit, begins_with_int, gap_between, text_of, query}
 use Rattle.bt_words.proofs.TextReads.{Apart, Uncut, segment_next, leads, lead_kind}
 use Rattle.bt_words.proofs.WordTokens.{is_cut}
-use Rattle.bt_words.proofs.Layouts.{NoLines, last_kind, no_lines_append, last_append, follow_dot, is_end, end_hard, end_no_line, end_stops, follow_is_dot, before_space, closed_mark, Inner, Solid, Tail, Head, Steps, inner, inner_none, tail_none, steps_none, tail_append, steps_append, solid_tail, head_solid, spaced_tail, comma_tail, worded, space_tail, word_tail, Between, in_parens, in_list, in_braces, block_tail, bracket_head}
+use Rattle.bt_words.proofs.DigitLemmas.{digits_number}
+use Rattle.bt_words.proofs.Layouts.{is_int_kind, is_int_alone, NoLines, last_kind, no_lines_append, last_append, follow_dot, is_end, end_hard, end_no_line, end_stops, follow_is_dot, before_space, closed_mark, Inner, Solid, Tail, Head, Steps, inner, inner_none, tail_none, steps_none, tail_append, steps_append, solid_tail, head_solid, spaced_tail, comma_tail, worded, space_tail, word_tail, Between, in_parens, in_list, in_braces, block_tail, bracket_head}
 use Rattle.bt_words.proofs.PrintedLayers.{of_arg, of_args, of_member, of_suffix, of_term, of_case, of_branch, of_others, of_last, args_fused, printed-Null, printed-True, printed-False, printed-Int, printed-Quoted, printed-This, printed-Root, printed-Name, printed-Var, printed-Metadata, printed-Meta, printed-Call, printed-Paren, printed-List, printed-Object, printed-Item, printed-Prefix, printed-Product, printed-Sum, printed-Compare, printed-And, printed-Or, printed-Coalesce, printed-Match, printed-If}
 
 -- a list of parts that are read so is laid out so
@@ -139,29 +142,39 @@ dot_token v e c = record {
   ends = λ b h. end_hard v.kind e;
 }
 
+-- a number begins with a digit
+number_begins : (u r : List ℕ) → is_number u ≡ true → begins_with_digit (u ++ r) ≡ true
+number_begins [] r h = absurd (cc)
+number_begins (c ∷ u) r h = both_true (is_digit c) (list_all is_digit u) h
+  where
+    both_true : (a b : Bool) → (a && b) ≡ true → a ≡ true
+    both_true true b h = refl
+    both_true false b h = h
+
 -- a query that is one token
 record Single (q : Query) : Type 0 where
   token : Lexeme
   printed : query q ≡ Token token ∷ []
   ends : is_end token.kind ≡ true
   leads_on : lead_kind token.kind ≡ true
+  digit : is_int_kind token.kind ≡ true → begins_with_digit (text_of (Token token ∷ [])) ≡ true
 
 single_at : (q p : Query) → Some p ≡ Some q → Single p → Single q
 single_at q p h b = let h' : p ≡ q = cc in subst Single h' b
 
 word_single : (x : Option Keyword) (t : Lexeme) (q : Query) → reserved_head t x ≡ Some q → Single q
 word_single None t q h = absurd (cc)
-word_single (Some w.Null) t q h = single_at q node.Null h (record { token = reserved_word w.Null; printed = printed-Null; ends = refl; leads_on = refl })
-word_single (Some w.True) t q h = single_at q node.True h (record { token = reserved_word w.True; printed = printed-True; ends = refl; leads_on = refl })
-word_single (Some w.False) t q h = single_at q node.False h (record { token = reserved_word w.False; printed = printed-False; ends = refl; leads_on = refl })
-word_single (Some w.This) t q h = single_at q node.This h (record { token = reserved_word w.This; printed = printed-This; ends = refl; leads_on = refl })
-word_single (Some w.Root) t q h = single_at q (node.Root t.at) h (record { token = reserved_word w.Root; printed = printed-Root t.at; ends = refl; leads_on = refl })
+word_single (Some w.Null) t q h = single_at q node.Null h (record { token = reserved_word w.Null; printed = printed-Null; ends = refl; leads_on = refl; digit = λ e. absurd (cc) })
+word_single (Some w.True) t q h = single_at q node.True h (record { token = reserved_word w.True; printed = printed-True; ends = refl; leads_on = refl; digit = λ e. absurd (cc) })
+word_single (Some w.False) t q h = single_at q node.False h (record { token = reserved_word w.False; printed = printed-False; ends = refl; leads_on = refl; digit = λ e. absurd (cc) })
+word_single (Some w.This) t q h = single_at q node.This h (record { token = reserved_word w.This; printed = printed-This; ends = refl; leads_on = refl; digit = λ e. absurd (cc) })
+word_single (Some w.Root) t q h = single_at q (node.Root t.at) h (record { token = reserved_word w.Root; printed = printed-Root t.at; ends = refl; leads_on = refl; digit = λ e. absurd (cc) })
 word_single (Some _) t q h = absurd (cc)
 
 kind_single : (kd : Kind) (t : Lexeme) (q : Query) → head_in kd t ≡ Some q → Single q
-kind_single k.Int t q h = single_at q (node.Int (pos (number t))) h (record { token = placeless k.Int (digits (number t)); printed = printed-Int (pos (number t)); ends = refl; leads_on = refl })
-kind_single k.Text t q h = single_at q (node.Quoted (word t)) h (record { token = placeless k.Text t.text; printed = printed-Quoted (word t); ends = refl; leads_on = refl })
-kind_single k.Var t q h = single_at q (node.Var (word t)) h (record { token = placeless k.Var t.text; printed = printed-Var (word t); ends = refl; leads_on = refl })
+kind_single k.Int t q h = single_at q (node.Int (pos (number t))) h (record { token = placeless k.Int (digits (number t)); printed = printed-Int (pos (number t)); ends = refl; leads_on = refl; digit = λ e. number_begins (digits (number t)) [] (digits_number (number t)) })
+kind_single k.Text t q h = single_at q (node.Quoted (word t)) h (record { token = placeless k.Text t.text; printed = printed-Quoted (word t); ends = refl; leads_on = refl; digit = λ e. absurd (cc) })
+kind_single k.Var t q h = single_at q (node.Var (word t)) h (record { token = placeless k.Var t.text; printed = printed-Var (word t); ends = refl; leads_on = refl; digit = λ e. absurd (cc) })
 kind_single k.Name t q h = word_single (reserved t) t q h
 kind_single _ t q h = absurd (cc)
 
@@ -208,8 +221,21 @@ segment_first (s.Int n) xs r h = absurd (cc)
 segment_first (s.Method v ys) xs r h = refl
 segment_first (s.Within y) xs r h = refl
 
+not_alone : (t : Lexeme) (p : Pieces) (y : Piece) → is_int_alone (Token t ∷ (p ++ y ∷ [])) ≡ false
+not_alone t [] y = refl
+not_alone t (x ∷ p) y = refl
+
+other_head : {p r : Pieces} → p ≡ r → is_int_alone r ≡ false → is_int_alone p ≡ true → begins_with_digit (text_of p) ≡ true
+other_head e f h = absurd (clash (sym (ap is_int_alone e ∙ f) ∙ h))
+  where
+    clash : ◌≡◌ {A = Bool} false true → ⊥
+    clash e = cc
+
+single_digit : (p : Pieces) (t : Lexeme) → p ≡ Token t ∷ [] → (is_int_kind t.kind ≡ true → begins_with_digit (text_of (Token t ∷ [])) ≡ true) → is_int_alone p ≡ true → begins_with_digit (text_of p) ≡ true
+single_digit p t e h f = ap (λ r. begins_with_digit (text_of r)) e ∙ h (sym (ap is_int_alone e) ∙ f)
+
 item_led : {p : Pieces} (x : Suffix Query) (xs : List (Suffix Query)) → Head p → Steps (print.all_of (map of_suffix (x ∷ xs))) →
-    (b c : Bool) → is_int_alone p ≡ b → begins_with_int (map (in_suffix query) (x ∷ xs)) ≡ c → Led (p ++ (gap_between b c ++ print.all_of (map of_suffix (x ∷ xs))))
+    (b c : Bool) → (is_int_alone p ≡ true → b ≡ true) → begins_with_int (map (in_suffix query) (x ∷ xs)) ≡ c → Led (p ++ (gap_between b c ++ print.all_of (map of_suffix (x ∷ xs))))
 item_led {p} x xs h t b c e e' = go b c e e'
   where
     steps : Pieces
@@ -234,14 +260,18 @@ item_led {p} x xs h t b c e e' = go b c e e'
     and_false : (a b : Bool) → a ≡ false → (a && b) ≡ false
     and_false a b h = rw h refl
 
+    not_so : (a : Bool) → (a ≡ true → ◌≡◌ {A = Bool} false true) → a ≡ false
+    not_so true f = sym (f refl)
+    not_so false f = refl
+
     and_other : (a b : Bool) → b ≡ false → (a && b) ≡ false
     and_other true b h = h
     and_other false b h = refl
 
-    go : (b c : Bool) → is_int_alone p ≡ b → begins_with_int (map (in_suffix query) (x ∷ xs)) ≡ c → Led (p ++ (gap_between b c ++ steps))
+    go : (b c : Bool) → (is_int_alone p ≡ true → b ≡ true) → begins_with_int (map (in_suffix query) (x ∷ xs)) ≡ c → Led (p ++ (gap_between b c ++ steps))
     go true true e e' = made (Space ∷ []) (λ r a. a) tt (λ y z. z) (λ r f. refl) (λ r. inl (and_other (is_int_alone p) (begins_fraction (32 ∷ text_of (steps ++ r))) refl))
     go true false e e' = no_gap (λ r. inr (segment_first x xs r e'))
-    go false c e e' = no_gap (λ r. inl (and_false (is_int_alone p) (begins_fraction (text_of (steps ++ r))) e))
+    go false c e e' = no_gap (λ r. inl (and_false (is_int_alone p) (begins_fraction (text_of (steps ++ r))) (not_so (is_int_alone p) e)))
 
 module _ (I : Query → Lexemes → Type 0) (H : Laid Query I query Solid) where
   arg_laid : Laid (Arg Query) (IsArg I) of_arg Solid
@@ -270,6 +300,19 @@ module _ (I : Query → Lexemes → Type 0) (H : Laid Query I query Solid) where
   head_laid _ _ (g.object (rule.bracketed {a = xs} {u} t t' h r h')) =
       subst Head (sym (printed-Object xs)) (bracket_head k.LeftBrace k.RightBrace (print.between print.comma (map of_member xs)) refl (in_braces (listed_inner member_laid xs u r)) refl)
 
+  head_digit : (q : Query) (u : Lexemes) → IsHead I q u → is_int_alone (query q) ≡ true → begins_with_digit (text_of (query q)) ≡ true
+  head_digit q _ (g.token t h) e = let b = kind_single t.kind t q h in single_digit (query q) b.token b.printed b.digit e
+  head_digit _ _ (g.name t free) e = other_head (printed-Name (word t)) refl e
+  head_digit _ _ (g.metadata t h) e = other_head printed-Metadata refl e
+  head_digit _ _ (g.meta_key {x} t t' h h') e = other_head (printed-Meta x) refl e
+  head_digit _ _ (g.call {xs} t free r) e = other_head (printed-Call (word t) xs) refl e
+  head_digit _ _ (g.meta_call {xs} t h r) e = other_head (printed-Call (word t) xs) refl e
+  head_digit _ _ (g.parens (rule.bracketed {a = q} t t' h r h')) e = other_head (printed-Paren q) (not_alone (mark_word k.LeftParen) (query q) (print.mark k.RightParen)) e
+  head_digit _ _ (g.«list» (rule.bracketed {a = qs} t t' h r h')) e =
+      other_head (printed-List qs) (not_alone (mark_word k.LeftBracket) (print.between print.comma (map query qs)) (print.mark k.RightBracket)) e
+  head_digit _ _ (g.object (rule.bracketed {a = xs} t t' h r h')) e =
+      other_head (printed-Object xs) (not_alone (mark_word k.LeftBrace) (print.between print.comma (map of_member xs)) (print.mark k.RightBrace)) e
+
   suffix_laid : Laid (Suffix Query) (IsSuffix I) of_suffix Steps
   suffix_laid x _ (g.segment dot t h h') = segment_steps t.kind t x h'
   suffix_laid _ _ (g.method {xs} {u} dot t h free r) =
@@ -289,7 +332,7 @@ module _ (I : Query → Lexemes → Type 0) (H : Laid Query I query Solid) where
   item_laid _ _ (g.head_alone {q} {u} r) = head_led (head_laid q u r)
   item_laid _ _ (g.suffixed {q} {x} {xs} {u} {v} r rs) =
       subst Led (sym (printed-Item q (x ∷ xs)))
-      (item_led x xs (head_laid q u r) (all_steps suffix_laid (x ∷ xs) v rs) (is_int_alone (query q)) (begins_with_int (map (in_suffix query) (x ∷ xs))) refl refl)
+      (item_led x xs (head_laid q u r) (all_steps suffix_laid (x ∷ xs) v rs) (begins_with_digit (text_of (query q))) (begins_with_int (map (in_suffix query) (x ∷ xs))) (head_digit q u r) refl)
 
   unary_laid : Laid Query (IsUnary I) query Solid
   unary_laid _ _ (g.item_alone {q} {u} r) = let b = item_laid q u r in b.solid

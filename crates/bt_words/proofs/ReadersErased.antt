@@ -1,15 +1,14 @@
 -- What readers ask of a query, without its places.
-use Rattle.std.proofs.Common.{◌≡◌, ℕ, List, [], ◌∷◌, map, Option, Some, None, refl, sym, ap, ◌∙◌, rules}
+use Rattle.std.proofs.Common.{◌≡◌, ℕ, List, [], ◌∷◌, map, Option, Some, None, refl, ap, ◌∙◌}
 use Rattle.bt_tree.specs.declared.tree.Key.{Key}
 use Rattle.bt_tree.specs.declared.tree.Key.TheVariants as steps
-use Rattle.bt_tree.specs.declared.tree.Query.{Query, roll-Query, out-Query, the_lemmas}
+use Rattle.bt_tree.specs.declared.tree.Query.{Query, out-Query}
 use Rattle.bt_tree.specs.declared.tree.Query.TheOpen.{Query-F}
-use Rattle.bt_tree.specs.declared.tree.Query.TheVariants as e
 use Rattle.bt_tree.specs.declared.tree.Suffix.{Suffix}
 use Rattle.bt_tree.specs.declared.tree.Suffix.TheVariants as s
-use Rattle.bt_tree.specs.Same.{word_erased, query_erased}
+use Rattle.bt_tree.specs.Same.{query_erased}
 use Rattle.bt_syntax.specs.Readers.{name_in, name_of, unary_layer, is_unary, root_in, root_of, key_and, target_keys, target_from, target_in, target_of}
-use Rattle.bt_tree.specs.Parts.{in_member, in_term, in_case, in_branch, in_option, arg_erased, part_erased}
+use Rattle.bt_tree.specs.Parts.{in_option, part_erased}
 use Rattle.bt_tree.proofs.LayerErased.{layer_erased, layer}
 
 name_layer : (x : Query-F Query) → name_in (layer_erased x) ≡ name_in x

@@ -2,6 +2,8 @@
 -- `=>` and `->` between spaces, and `match` and `if` on one line with a space inside and before their braces.
 use Rattle.std.specs.Prelude.{ℕ, zero, suc, ℤ, pos, negsuc, ◌+◌, Bool, true, false, List, [], ◌∷◌, ◌++◌, map, codes, Option, Some, None}
 use Rattle.std.specs.Int.Digits.{digits_of}
+use Rattle.json.specs.Print.{quoted}
+use Rattle.bt_lexer.specs.Bytes.{is_digit}
 use Rattle.bt_lexer.specs.declared.token.Kind.{Kind}
 use Rattle.bt_lexer.specs.declared.token.Kind.TheVariants as k
 use Rattle.bt_value.specs.declared.names.Op.{Op}
@@ -46,6 +48,21 @@ words_of [] = []
 words_of (Space ∷ p) = words_of p
 words_of (Line ∷ p) = words_of p
 words_of (Token t ∷ p) = t ∷ words_of p
+
+-- a token's bytes: a variable has its `$`, and a text is written as a compact JSON text
+abbrev pub bytes_in : Kind → List ℕ → List ℕ
+bytes_in k.Var u = 36 ∷ u
+bytes_in k.Text u = quoted u
+bytes_in _ u = u
+
+abbrev pub bytes_of : Lexeme → List ℕ
+bytes_of t = bytes_in t.kind t.text
+
+abbrev pub text_of : Pieces → List ℕ
+text_of [] = []
+text_of (Space ∷ p) = 32 ∷ text_of p
+text_of (Line ∷ p) = 10 ∷ text_of p
+text_of (Token t ∷ p) = bytes_of t ++ text_of p
 
 -- ---- tokens
 
@@ -195,14 +212,10 @@ suffix (s.Int n) = mark k.Dot ∷ Token (placeless k.Int (int_digits n)) ∷ []
 suffix (s.Method v xs) = mark k.Dot ∷ name v.text ∷ args xs
 suffix (s.Within x) = mark k.Dot ∷ bracketed k.LeftParen k.RightParen (arg x)
 
--- A space stands before the `.` between an Int and an Int.
-abbrev pub is_int_kind : Kind → Bool
-is_int_kind k.Int = true
-is_int_kind _ = false
-
-abbrev pub is_int_alone : Pieces → Bool
-is_int_alone (Token t ∷ []) = is_int_kind t.kind
-is_int_alone _ = false
+-- A space stands before the `.` between an Int and an Int. Of the heads an Int alone begins with a digit.
+abbrev pub begins_with_digit : List ℕ → Bool
+begins_with_digit [] = false
+begins_with_digit (c ∷ u) = is_digit c
 
 abbrev pub begins_with_int : List (Suffix Pieces) → Bool
 begins_with_int (s.Int n ∷ xs) = true
@@ -258,7 +271,7 @@ query_step (Query-F.Call v xs) = name v.text ∷ args xs
 query_step (Query-F.Paren p) = bracketed k.LeftParen k.RightParen p
 query_step (Query-F.List ps) = bracketed k.LeftBracket k.RightBracket (between comma ps)
 query_step (Query-F.Object xs) = bracketed k.LeftBrace k.RightBrace (between comma (map member xs))
-query_step (Query-F.Item p xs) = p ++ (gap_between (is_int_alone p) (begins_with_int xs) ++ all_of (map suffix xs))
+query_step (Query-F.Item p xs) = p ++ (gap_between (begins_with_digit (text_of p)) (begins_with_int xs) ++ all_of (map suffix xs))
 query_step (Query-F.Prefix op p) = mark (kind_of_prefix op) ∷ p
 query_step (Query-F.Product p xs) = p ++ all_of (map term xs)
 query_step (Query-F.Sum p xs) = p ++ all_of (map term xs)
