@@ -1,0 +1,5 @@
+pub mod Kinds
+pub mod Targets
+pub mod Limits
+pub mod Moving
+pub mod Operators
