@@ -1,5 +1,5 @@
 -- The faults of a mapping's text.
-use Rattle.std.proofs.Common.{◌≡◌, ◌≢◌, ℕ, ◌≤◌, ◌<◌, List, [], ◌∷◌, ◌++◌, length, refl, subst, sym, arith, Bool, true, false, ◌&&◌, nat_eq, if◌then◌else◌, Option, Some, None}
+use Rattle.std.proofs.Common.{◌≡◌, ◌≢◌, ℕ, ◌≤◌, List, [], ◌∷◌, ◌++◌, length, subst, arith, Bool, true, false, ◌&&◌, nat_eq, if◌then◌else◌, Option, Some}
 use Rattle.bt_lexer.specs.Lines.{HasTokens, HasFault}
 use Rattle.bt_lexer.specs.Spans.{AreSpans, IsFaultWithin}
 use Rattle.bt_lexer.specs.declared.token.LexFault.{LexFault}
@@ -7,13 +7,12 @@ use Rattle.bt_lexer.specs.declared.token.LexFault.TheVariants as lexer
 use Rattle.bt_lexer.specs.declared.token.Token.{Token}
 use Rattle.bt_syntax.specs.Brackets.{deep_at, opens, step, max_open}
 use Rattle.bt_syntax.specs.Grammar.{ReadsMapping}
-use Rattle.bt_syntax.specs.Lexemes.{Lexeme, Lexemes, lexemes}
+use Rattle.bt_syntax.specs.Lexemes.{Lexemes, lexemes}
 use Rattle.bt_syntax.specs.Places.{Refuses, place_of}
 use Rattle.bt_syntax.specs.declared.fault.SyntaxFault.{SyntaxFault}
 use Rattle.bt_syntax.specs.declared.fault.SyntaxFault.TheVariants as parser
-use Rattle.bt_tree.specs.declared.tree.Mapping.{Mapping}
-use Rattle.bt_top.specs.BloblRun.{IsUnread}
-use Rattle.bt_top.specs.BloblText.{IsOtherForm, IsWithin, TextSays, TokensSay, lexer_course, parser_course}
+use Rattle.bt_top.specs.blobl.Inside.{IsUnread, IsWithin, TokensSay, lexer_course, parser_course}
+use Rattle.bt_top.specs.blobl.Text.{IsOtherForm, TextSays}
 use Rattle.bt_top.specs.declared.blobl.course.BloblCourse.{BloblCourse}
 use Rattle.bt_top.specs.declared.blobl.course.BloblCourse.TheVariants as course
 

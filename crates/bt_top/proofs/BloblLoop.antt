@@ -1,12 +1,11 @@
 -- The lines of `blobl`, one turn after another.
-use Rattle.std.proofs.Common.{◌≡◌, ℕ, ◌+◌, zero, suc, List, [], ◌∷◌, ◌++◌, take, length, map, refl, ap, sym, subst, ◌∙◌, arith, IsTrue, Bool, true, false, ◌||◌, Some, slice_get, append-nil, append_assoc, length-append}
+use Rattle.std.proofs.Common.{◌≡◌, ℕ, ◌+◌, suc, List, [], ◌∷◌, ◌++◌, take, length, refl, ap, sym, ◌∙◌, arith, Bool, true, false, ◌||◌, Some, slice_get, append-nil, append_assoc, length-append}
 use Rattle.bt_ports.specs.World.{Tale, StillTells}
 use Rattle.bt_ports.specs.declared.outside.Source as Source
-use Rattle.bt_intake.specs.Sources.{all_tell}
 use Rattle.bt_intake.specs.View.{LineView}
 use Rattle.bt_tree.specs.declared.tree.Mapping.{Mapping}
-use Rattle.bt_top.specs.Blobl.{outcome, printed_of, error_of, fails, blobl_text, blobl_errors, errors_from, some_fail}
-use Rattle.bt_top.specs.BloblLines.{Done, Going, Gave, GaveNext, Halted, Passed, SameLines, Turned, all_lines}
+use Rattle.bt_top.specs.blobl.Inside.{Going, GivenLines, NextLines, LinesHalted, Passed, SameLines, LineMapped, all_lines}
+use Rattle.bt_top.specs.blobl.Meaning.{outcome, printed_of, error_of, fails, blobl_text, blobl_errors, errors_from, some_fail}
 use Rattle.bt_top.specs.declared.blobl.course.Stop.{Stop}
 use Rattle.bt_top.specs.declared.blobl.course.Stop.TheVariants as stops
 
@@ -48,7 +47,7 @@ first-more (x ∷ all) (d ∷ done) line first at =
 pub joined : {A : Type 0} (a b c : List A) (x y : List A) → b ≡ a ++ (x ++ []) → c ≡ b ++ y → c ≡ a ++ (x ++ y)
 joined a b c x y p q = q ∙ ap (λ (z : List _). z ++ y) (p ∙ ap (λ (z : List _). a ++ z) (append-nil x)) ∙ append_assoc a x y
 
-gave-all : (stop : Stop) (done : List (List ℕ)) (line : List ℕ) (before given : ℕ) (all : List (List ℕ)) → before ≡ length done → GaveNext stop line before given all → Gave stop done line given all
+gave-all : (stop : Stop) (done : List (List ℕ)) (line : List ℕ) (before given : ℕ) (all : List (List ℕ)) → before ≡ length done → NextLines stop line before given all → GivenLines stop done line given all
 gave-all stops.Ended done line before given all is gave = gave ∙ is
 gave-all stops.ReadFault done line before given all is gave = gave ∙ is
 gave-all (stops.LongLine n) done line before given all is gave = gave ∙ is
@@ -69,7 +68,7 @@ module _ {S E I : Type 0} (gs : Source.Ghosts S) (m : Mapping) where
   module _ (n : ℕ) (failed : Bool) (i j : LineView S) (tells tells' prints prints' says says' : Bool) (a b c : Tale E I)
       (still : StillTells tells tells' × StillTells prints prints' × StillTells says says') (going : Going gs m n failed i tells prints says a b) where
     -- one line more
-    pub going-turned : (fault : Bool) → Turned gs m (n + 1) fault i j tells' prints' says' b c → SameLines gs i j → Going gs m (n + 1) (failed || fault) j tells' prints' says' a c
+    pub going-turned : (fault : Bool) → LineMapped gs m (n + 1) fault i j tells' prints' says' b c → SameLines gs i j → Going gs m (n + 1) (failed || fault) j tells' prints' says' a c
     going-turned fault turned lines =
         let was = going.whole in
         let done = going.done in
@@ -96,22 +95,22 @@ module _ {S E I : Type 0} (gs : Source.Ghosts S) (m : Mapping) where
         }
 
     -- and no more
-    pub passed-halted : (stop : Stop) → Halted gs m stop i j tells' prints' says' b c → SameLines gs i j → Passed gs m (record { stop = stop; failed = failed }) j tells' prints' says' a c
+    pub passed-halted : (stop : Stop) → LinesHalted gs m stop i j tells' prints' says' b c → SameLines gs i j → Passed gs m (record { stop = stop; failed = failed }) j tells' prints' says' a c
     passed-halted stop halted lines =
         let was = going.whole in
         let done = going.done in
         record {
           done = done;
           line = halted.line;
-          front = halted.breaks.front;
+          prefix = halted.breaks.prefix;
           whole =
               record {
-                printed = λ t p. joined a.printed b.printed c.printed (blobl_text m done) halted.breaks.front (was.printed (still.0 t) (still.1 p)) (halted.breaks.printed t p);
+                printed = λ t p. joined a.printed b.printed c.printed (blobl_text m done) halted.breaks.prefix (was.printed (still.0 t) (still.1 p)) (halted.breaks.printed t p);
                 said = λ t p. halted.breaks.said t p ∙ was.said (still.0 t) (still.2 p);
                 failed = was.failed;
                 first = λ t. let same = lines t in was.first same.0 ∙ ap (take (length done)) (sym same.1);
               };
-          front_is = halted.breaks.front_is;
+          prefix_is = halted.breaks.prefix_is;
           gave = λ t. let same = lines t in gave-all stop done halted.line _ _ _ (going.given same.0 ∙ sym going.count) (halted.gave t);
           answer = halted.answer;
         }

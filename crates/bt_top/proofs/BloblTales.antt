@@ -1,9 +1,7 @@
 -- What the world tells behind the steps of `blobl`.
-use Rattle.std.proofs.Common.{◌≡◌, ℕ, List, [], ◌++◌, ap, ◌∙◌, sym, subst, refl, append-nil}
+use Rattle.std.proofs.Common.{◌≡◌, ℕ, List, [], ap, ◌∙◌, sym, subst, refl, append-nil}
 use Rattle.bt_ports.specs.World.{Tale}
-use Rattle.bt_ports.specs.declared.parts.Asked.{Asked}
-use Rattle.bt_top.specs.BloblLines.{PrintsOnly}
-use Rattle.bt_top.specs.BloblRun.{OpensNone}
+use Rattle.bt_top.specs.blobl.Inside.{PrintsOnly, OpensNone}
 use Rattle.bt_top.specs.declared.blobl.course.BloblCourse.TheVariants as course
 
 -- what was printed and said twice

@@ -1,17 +1,16 @@
 -- One turn of the lines of `blobl`.
-use Rattle.std.proofs.Common.{◌≡◌, ℕ, ◌+◌, List, [], ◌∷◌, ◌++◌, map, refl, ap, sym, ◌∙◌, IsTrue, Bool, Some, slice_get, Result, Ok, Err, append-nil, option_map}
+use Rattle.std.proofs.Common.{◌≡◌, ℕ, ◌+◌, List, [], map, refl, ap, sym, ◌∙◌, IsTrue, Bool, Some, slice_get, Result, Ok, Err, append-nil, option_map}
 use Rattle.std.proofs.lemmas.Option.{slice_get-map}
 use Rattle.bt_ports.specs.Contents.{Contents}
 use Rattle.bt_ports.specs.World.{Tale}
 use Rattle.bt_ports.specs.declared.outside.Source as Source
 use Rattle.bt_ports.specs.declared.parts.Item.{Item}
-use Rattle.bt_ports.specs.declared.parts.Next.{Next}
 use Rattle.bt_intake.specs.Lines.{batches}
 use Rattle.bt_intake.specs.Sources.{all_tell, told}
 use Rattle.bt_intake.specs.View.{LineView}
 use Rattle.bt_tree.specs.declared.tree.Mapping.{Mapping}
-use Rattle.bt_top.specs.Blobl.{line_bytes, outcome}
-use Rattle.bt_top.specs.BloblLines.{Ends, Turns, Turned, Halted, SameLines, IsBreak, AnswerIs, GaveNext, all_lines, Breaks}
+use Rattle.bt_top.specs.blobl.Inside.{LineResult, TurnResult, SameLines, IsBreak, AnswerIs, NextLines, all_lines}
+use Rattle.bt_top.specs.blobl.Meaning.{line_bytes, outcome}
 use Rattle.bt_top.specs.declared.blobl.course.Stop.{Stop}
 use Rattle.bt_top.specs.declared.blobl.course.Stop.TheVariants as stops
 
@@ -24,7 +23,7 @@ answer-free stops.Bound j b = absurd b
 answer-free stops.PrintFailed j b = tt
 answer-free stops.NoMemory j b = tt
 
-gave-next : (stop : Stop) (line : List ℕ) (before given : ℕ) (all : List (List ℕ)) → IsBreak stop → slice_get all before ≡ Some line → GaveNext stop line before given all
+gave-next : (stop : Stop) (line : List ℕ) (before given : ℕ) (all : List (List ℕ)) → IsBreak stop → slice_get all before ≡ Some line → NextLines stop line before given all
 gave-next stops.Ended line before given all b at = absurd b
 gave-next stops.ReadFault line before given all b at = absurd b
 gave-next (stops.LongLine n) line before given all b at = absurd b
@@ -40,11 +39,11 @@ module _ {S : Type 0} (gs : Source.Ghosts S) (i j : LineView S)
 
   module _ {E I : Type 0} (m : Mapping) (n : ℕ) (tells prints says : Bool) where
     -- memory was wanting before a line was taken
-    pub turns-starved : (a : Tale E I) → Turns gs m n (Err stops.NoMemory) i j tells prints says a a
+    pub turns-starved : (a : Tale E I) → TurnResult gs m n (Err stops.NoMemory) i j tells prints says a a
     turns-starved a = (
       record {
         line = [];
-        breaks = record { front = []; front_is = refl; printed = λ t p. sym (append-nil a.printed); said = λ t p. refl };
+        breaks = record { prefix = []; prefix_is = refl; printed = λ t p. sym (append-nil a.printed); said = λ t p. refl };
         answer = tt;
         gave = λ t. tt;
       },
@@ -59,6 +58,6 @@ module _ {S : Type 0} (gs : Source.Ghosts S) (i j : LineView S)
           ∙ slice_get-map line_bytes (batches i.bound (told gs i.sources.list)) i.given ∙ ap (option_map line_bytes) (gives t).1
 
       -- a line was taken, and this became of it
-      pub turns-taken : (r : Result Bool Stop) → Ends r n (outcome m (line_bytes items.list)) tells prints says a b → Turns gs m n r i j tells prints says a b
+      pub turns-taken : (r : Result Bool Stop) → LineResult r n (outcome m (line_bytes items.list)) tells prints says a b → TurnResult gs m n r i j tells prints says a b
       turns-taken (Ok fault) e = (record { line = line_bytes items.list; fault_is = e.0; tells_it = e.1; given = λ t. ((gives t).0, here t) }, same-lines)
       turns-taken (Err stop) e = (record { line = line_bytes items.list; breaks = e.1; answer = answer-free stop j e.0; gave = λ t. gave-next stop _ _ _ _ e.0 (here t) }, same-lines)

@@ -1,5 +1,5 @@
 -- `blobl` as a whole.
-use Rattle.std.proofs.Common.{◌≡◌, ℕ, ◌+◌, ◌≤◌, List, [], ◌∷◌, ◌++◌, take, length, map, refl, ap, sym, subst, ◌∙◌, arith, IsTrue, Bool, true, false, Option, Some, None, slice_get, append-nil, add-zero}
+use Rattle.std.proofs.Common.{◌≡◌, ℕ, ◌≤◌, List, [], ◌∷◌, ◌++◌, take, length, map, refl, ap, sym, subst, ◌∙◌, arith, IsTrue, Bool, true, false, Option, Some, None, append-nil, add-zero}
 use Rattle.std.proofs.lemmas.List.{take_all, length-map}
 use Rattle.std.specs.List.{list_all}
 use Rattle.bt_ports.specs.Contents.{Contents}
@@ -7,19 +7,19 @@ use Rattle.bt_ports.specs.World.{Tale, once_more}
 use Rattle.bt_ports.specs.declared.outside.Source as Source
 use Rattle.bt_ports.specs.declared.parts.Named.{Named}
 use Rattle.bt_ports.specs.declared.parts.Next.{Next}
-use Rattle.bt_ports.specs.declared.parts.Next.TheVariants as next
-use Rattle.bt_intake.specs.Answers.{Standing, StopSays}
-use Rattle.bt_intake.specs.Lines.{batches, stop, SourceBytes}
+use Rattle.bt_intake.specs.Answers.{Standing, StopSays as AnswerSays}
+use Rattle.bt_intake.specs.Lines.{batches, SourceBytes}
 use Rattle.bt_intake.specs.Sources.{all_tell, told, taken_count, fault_count, SourceKept, SourcesKept}
 use Rattle.bt_intake.specs.View.{LineView}
 use Rattle.bt_syntax.specs.Built.{BuiltReading}
 use Rattle.bt_tree.specs.declared.tree.Mapping.{Mapping}
-use Rattle.bt_top.specs.Blobl.{outcome, blobl_text, blobl_errors, lines_of, line_bytes}
-use Rattle.bt_top.specs.BloblLines.{AnswerIs, Gave, Passed, PrintsOnly, all_lines}
+use Rattle.bt_top.specs.declared.limits.TheConstants.{INPUT_BOUND}
+use Rattle.bt_top.specs.blobl.Inside.{AnswerIs, GivenLines, Passed, PrintsOnly, all_lines, IsFreshInput, IsNoOpening, IsUnread, OpensInput, OpensNone, PassFaults}
+use Rattle.bt_top.specs.blobl.Meaning.{blobl_text, blobl_errors, lines_of, line_bytes}
+use Rattle.bt_top.specs.blobl.Promise.{BloblCounts, BloblTells, IsBloblPart, MapsBy, MapsLines, MapsNone, StopFaults, StopSays}
 use Rattle.bt_top.proofs.BloblLoop.{joined}
-use Rattle.bt_top.specs.BloblRun.{BloblCounts, BloblWent, IsBloblPart, IsFreshInput, IsNoOpening, IsUnread, MapsBy, MapsLines, MapsNone, OpensInput, OpensNone, StopsSo}
-use Rattle.bt_top.specs.Input.{input_bound, input_of, transactions}
-use Rattle.bt_top.specs.Openings.{source_opening}
+use Rattle.bt_top.specs.Input.{input_of, transactions}
+use Rattle.bt_top.specs.Calls.{source_opening}
 use Rattle.bt_top.specs.declared.blobl.course.BloblCourse.{BloblCourse}
 use Rattle.bt_top.specs.declared.blobl.course.BloblCourse.TheVariants as course
 use Rattle.bt_top.specs.declared.blobl.course.Pass.{Pass}
@@ -41,34 +41,43 @@ and-true true = refl
 and-true false = refl
 
 -- why no more lines were mapped
-stops-so : (s : Stop) (answer : Option Next) (done : List (List ℕ)) (line : List ℕ) (given faults taken : ℕ) (bytes : List ℕ)
-    → AnswerIs s answer → StopSays answer input_bound taken given true (input_of bytes) → Gave s done line given (lines_of bytes)
-    → done ≡ take (length done) (lines_of bytes) → (s ≡ stops.ReadFault → 1 ≤ faults) → StopsSo s done line faults taken bytes
-stops-so stops.Ended answer done line given faults taken bytes is says gave first read =
-    let end = subst (λ (a : Option Next). StopSays a input_bound taken given true (input_of bytes)) is says in
+stop-holds : (s : Stop) (answer : Option Next) (done : List (List ℕ)) (line : List ℕ) (given taken : ℕ) (bytes : List ℕ)
+    → AnswerIs s answer → AnswerSays answer INPUT_BOUND taken given true (input_of bytes) → GivenLines s done line given (lines_of bytes)
+    → done ≡ take (length done) (lines_of bytes) → StopSays s done line taken bytes
+stop-holds stops.Ended answer done line given taken bytes is says gave first =
+    let end = subst (λ (a : Option Next). AnswerSays a INPUT_BOUND taken given true (input_of bytes)) is says in
     let all : length (lines_of bytes) ≤ length done = omega (arith, length-map (transactions bytes) line_bytes, end.2 refl, gave) in
     (first ∙ take_all (length done) (lines_of bytes) all, end.1 refl)
-stops-so stops.ReadFault answer done line given faults taken bytes is says gave first read =
-    let end = subst (λ (a : Option Next). StopSays a input_bound taken given true (input_of bytes)) is says in
-    (read refl, omega (arith, end refl, gave))
-stops-so (stops.LongLine n) answer done line given faults taken bytes is says gave first read =
-    subst (λ (a : Option Next). StopSays a input_bound taken given true (input_of bytes)) is says
-stops-so stops.Bound answer done line given faults taken bytes is says gave first read =
-    let end = subst (λ (a : Option Next). StopSays a input_bound taken given true (input_of bytes)) is says in
+stop-holds stops.ReadFault answer done line given taken bytes is says gave first =
+    let end = subst (λ (a : Option Next). AnswerSays a INPUT_BOUND taken given true (input_of bytes)) is says in
+    omega (arith, end refl, gave)
+stop-holds (stops.LongLine n) answer done line given taken bytes is says gave first =
+    subst (λ (a : Option Next). AnswerSays a INPUT_BOUND taken given true (input_of bytes)) is says
+stop-holds stops.Bound answer done line given taken bytes is says gave first =
+    let end = subst (λ (a : Option Next). AnswerSays a INPUT_BOUND taken given true (input_of bytes)) is says in
     let all : length (lines_of bytes) ≤ length done = omega (arith, length-map (transactions bytes) line_bytes, end.2 refl, gave) in
     (first ∙ take_all (length done) (lines_of bytes) all, end.1 refl, end.0)
-stops-so stops.PrintFailed answer done line given faults taken bytes is says gave first read = gave
-stops-so stops.NoMemory answer done line given faults taken bytes is says gave first read = tt
+stop-holds stops.PrintFailed answer done line given taken bytes is says gave first = gave
+stop-holds stops.NoMemory answer done line given taken bytes is says gave first = tt
+
+-- the source's faults, by those of the intake, which had none at first
+stop-faults : (s : Stop) (f f' : ℕ) → f ≡ 0 → PassFaults s f f' → StopFaults s f'
+stop-faults stops.Ended f f' z p = p ∙ z
+stop-faults stops.ReadFault f f' z p = omega (arith, p)
+stop-faults (stops.LongLine n) f f' z p = p ∙ z
+stop-faults stops.Bound f f' z p = p ∙ z
+stop-faults stops.PrintFailed f f' z p = p ∙ z
+stop-faults stops.NoMemory f f' z p = tt
 
 stop-says : (s : Option Next) (bound bound' taken taken' given : ℕ) (tells tells' : Bool) (ss ss' : List SourceBytes)
-    → bound ≡ bound' → taken ≡ taken' → tells ≡ tells' → ss ≡ ss' → StopSays s bound taken given tells ss → StopSays s bound' taken' given tells' ss'
+    → bound ≡ bound' → taken ≡ taken' → tells ≡ tells' → ss ≡ ss' → AnswerSays s bound taken given tells ss → AnswerSays s bound' taken' given tells' ss'
 stop-says s bound bound' taken taken' given tells tells' ss ss' p q r u says = rw (sym p, sym q, sym r, sym u) says
 
 module _ {S E : Type 0} (gs : Source.Ghosts S) (text : List ℕ) where
   -- the standard input was opened, its lines mapped, and it was kept
   module _ (m : Mapping) (reads : BuiltReading text m) (pass : Pass) (i j : LineView S) (tells prints says prints' says' : Bool) (a b c d : Tale E (Contents (Named S))) (sources : Contents (Named S))
-      (printing : IsTrue prints' → IsTrue prints) (saying : IsTrue says' → IsTrue says) (fresh : IsFreshInput i) (opens : OpensInput gs i a b) (kept : SourcesKept gs i.sources.list j.sources.list) (bound : j.bound ≡ i.bound) (stands : Standing gs j)
-      (fault : pass.stop ≡ stops.ReadFault → 1 ≤ fault_count gs j.sources.list) (passed : Passed gs m pass j tells prints says b c) (only : PrintsOnly b c)
+      (printing : IsTrue prints' → IsTrue prints) (saying : IsTrue says' → IsTrue says) (fresh : IsFreshInput gs i) (opens : OpensInput gs i a b) (kept : SourcesKept gs i.sources.list j.sources.list) (bound : j.bound ≡ i.bound) (stands : Standing gs j)
+      (rose : PassFaults pass.stop (fault_count gs i.sources.list) (fault_count gs j.sources.list)) (passed : Passed gs m pass j tells prints says b c) (only : PrintsOnly b c)
       (given_back : sources ≡ j.sources) (keeps : d ≡ record c { input_keeps = once_more c.input_keeps; kept_input = Some sources }) (t : IsTrue tells) where
     whole : d ≡ record a { calls = a.calls ++ source_opening ∷ []; stdin = b.stdin; printed = c.printed; lines = c.lines; input_keeps = once_more a.input_keeps; kept_input = Some j.sources }
     whole =
@@ -82,7 +91,7 @@ module _ {S E : Type 0} (gs : Source.Ghosts S) (text : List ℕ) where
     abbrev source : S
     source = one.0
 
-    is_bound : j.bound ≡ input_bound
+    is_bound : j.bound ≡ INPUT_BOUND
     is_bound = bound ∙ fresh.bound
 
     telling : all_tell gs j.sources.list ≡ gs.tells source
@@ -92,19 +101,23 @@ module _ {S E : Type 0} (gs : Source.Ghosts S) (text : List ℕ) where
     told_bytes = ap (told gs) one.1
 
     same_lines : all_lines gs j ≡ lines_of (gs.bytes source)
-    same_lines = ap (λ (n : ℕ). map line_bytes (batches n (told gs j.sources.list))) is_bound ∙ ap (λ (ss : List SourceBytes). map line_bytes (batches input_bound ss)) told_bytes
+    same_lines = ap (λ (n : ℕ). map line_bytes (batches n (told gs j.sources.list))) is_bound ∙ ap (λ (ss : List SourceBytes). map line_bytes (batches INPUT_BOUND ss)) told_bytes
 
     first : IsTrue (gs.tells source) → passed.done ≡ take (length passed.done) (lines_of (gs.bytes source))
     first told_all = passed.whole.first (telling ∙ told_all) ∙ ap (take (length passed.done)) same_lines
 
-    ends : IsTrue (gs.tells source) → StopsSo pass.stop passed.done passed.line (gs.faults source) (gs.taken source) (gs.bytes source)
+    faults : StopFaults pass.stop (gs.faults source)
+    faults =
+        let none : fault_count gs i.sources.list ≡ 0 = ap (fault_count gs) fresh.sources ∙ add-zero (gs.faults fresh.source) ∙ fresh.faults in
+        let all : fault_count gs j.sources.list ≡ gs.faults source = ap (fault_count gs) one.1 ∙ add-zero (gs.faults source) in
+        subst (StopFaults pass.stop) all (stop-faults pass.stop _ _ none rose)
+
+    ends : IsTrue (gs.tells source) → StopSays pass.stop passed.done passed.line (gs.taken source) (gs.bytes source)
     ends told_all =
         let taken : j.taken ≡ gs.taken source = sym (stands.counted (telling ∙ told_all)) ∙ ap (taken_count gs) one.1 ∙ add-zero (gs.taken source) in
         let says_so = stop-says j.stopped _ _ _ _ j.given _ _ _ _ is_bound taken (telling ∙ told_all) told_bytes stands.stop_says in
-        let faults : fault_count gs j.sources.list ≡ gs.faults source = ap (fault_count gs) one.1 ∙ add-zero (gs.faults source) in
-        stops-so pass.stop j.stopped passed.done passed.line j.given (gs.faults source) (gs.taken source) (gs.bytes source) passed.answer says_so
-        (subst (λ (ls : List (List ℕ)). Gave pass.stop passed.done passed.line j.given ls) same_lines (passed.gave (telling ∙ told_all))) (first told_all)
-        (λ is. subst (λ (n : ℕ). 1 ≤ n) faults (fault is))
+        stop-holds pass.stop j.stopped passed.done passed.line j.given (gs.taken source) (gs.bytes source) passed.answer says_so
+        (subst (λ (ls : List (List ℕ)). GivenLines pass.stop passed.done passed.line j.given ls) same_lines (passed.gave (telling ∙ told_all))) (first told_all)
 
     maps : MapsLines gs text pass [] prints' says' a d
     maps =
@@ -116,23 +129,24 @@ module _ {S E : Type 0} (gs : Source.Ghosts S) (text : List ℕ) where
           source = source;
           done = passed.done;
           line = passed.line;
-          front = passed.front;
+          prefix = passed.prefix;
           once = ap (λ (w : T). w.input_keeps) whole;
           kept = ap (λ (w : T). w.kept_input) whole;
           one = one.1;
           place = one.2.placed ∙ opens.place;
           input = λ told_all. one.2.same told_all ∙ opens.input (one.2.told told_all);
-          printed = λ p. ap (λ (w : T). w.printed) whole ∙ passed.whole.printed t (printing p) ∙ ap (λ (w : T). w.printed ++ (blobl_text m passed.done ++ passed.front)) opens.opens;
+          printed = λ p. ap (λ (w : T). w.printed) whole ∙ passed.whole.printed t (printing p) ∙ ap (λ (w : T). w.printed ++ (blobl_text m passed.done ++ passed.prefix)) opens.opens;
           said = λ p.
               ap (λ (w : T). w.lines) whole ∙ passed.whole.said t (saying p) ∙ ap (λ (w : T). w.lines ++ blobl_errors m passed.done) opens.opens
               ∙ ap (λ (ls : List (List ℕ)). a.lines ++ ls) (sym (append-nil (blobl_errors m passed.done)));
-          front_is = passed.front_is;
+          prefix_is = passed.prefix_is;
           failed = passed.whole.failed;
           first = first;
+          faults = faults;
           ends = ends;
         }
 
-    pub went-mapped : BloblWent gs text (course.Mapped pass) [] prints' says' a d
+    pub went-mapped : BloblTells gs text (course.Mapped pass) [] prints' says' a d
     went-mapped =
         let T : Type 0 = Tale E (Contents (Named S)) in
         record {
@@ -153,7 +167,7 @@ module _ {S E : Type 0} (gs : Source.Ghosts S) (text : List ℕ) where
         }
 
   -- no line could be read
-  pub went-none : (came : BloblCourse) (prints says : Bool) (a b : Tale E (Contents (Named S))) → IsNoOpening came → OpensNone came a b → BloblWent gs text came [] prints says a b
+  pub went-none : (came : BloblCourse) (prints says : Bool) (a b : Tale E (Contents (Named S))) → IsNoOpening came → OpensNone came a b → BloblTells gs text came [] prints says a b
   went-none came prints says a b none opened =
       let T : Type 0 = Tale E (Contents (Named S)) in
       record {
@@ -186,7 +200,7 @@ module _ {S E : Type 0} (gs : Source.Ghosts S) (text : List ℕ) where
       maps-none (course.Mapped pass) prints says a b none nothing = absurd none
 
   -- the text is no mapping that runs
-  pub went-unread : (came : BloblCourse) (prints says : Bool) (a : Tale E (Contents (Named S))) → IsUnread came → BloblWent gs text came [] prints says a a
+  pub went-unread : (came : BloblCourse) (prints says : Bool) (a : Tale E (Contents (Named S))) → IsUnread came → BloblTells gs text came [] prints says a a
   went-unread came prints says a none = record {
     part = [];
     calls = sym (append-nil a.calls);
@@ -228,7 +242,7 @@ module _ {S E : Type 0} (gs : Source.Ghosts S) (text : List ℕ) where
       source = mapped.source;
       done = mapped.done;
       line = mapped.line;
-      front = mapped.front;
+      prefix = mapped.prefix;
       once = ap (λ (w : Tale E (Contents (Named S))). w.input_keeps) same ∙ mapped.once;
       kept = ap (λ (w : Tale E (Contents (Named S))). w.kept_input) same ∙ mapped.kept;
       one = mapped.one;
@@ -236,9 +250,10 @@ module _ {S E : Type 0} (gs : Source.Ghosts S) (text : List ℕ) where
       input = mapped.input;
       printed = λ p. ap (λ (w : Tale E (Contents (Named S))). w.printed) same ∙ mapped.printed (printing p);
       said = λ p. joined a.lines b.lines c.lines (blobl_errors mapped.mapping mapped.done) last (mapped.said (saying p)) (added p);
-      front_is = mapped.front_is;
+      prefix_is = mapped.prefix_is;
       failed = mapped.failed;
       first = mapped.first;
+      faults = mapped.faults;
       ends = mapped.ends;
     }
 
@@ -249,7 +264,7 @@ module _ {S E : Type 0} (gs : Source.Ghosts S) (text : List ℕ) where
     maps-said course.NoMemory m = none-said m
     maps-said (course.Mapped pass) m = lines-said pass m
 
-    pub went-said : (came : BloblCourse) → BloblWent gs text came [] prints says a b → BloblWent gs text came last prints' says' a c
+    pub went-said : (came : BloblCourse) → BloblTells gs text came [] prints says a b → BloblTells gs text came last prints' says' a c
     went-said came went = record {
       part = went.part;
       calls = ap (λ (w : Tale E (Contents (Named S))). w.calls) same ∙ went.calls;

@@ -1,5 +1,5 @@
 -- Steps of a run.
-use Rattle.std.proofs.Common.{List, slice_get, ap, ◌∙◌, sym}
+use Rattle.std.proofs.Common.{◌≡◌, ℕ, List, Option, slice_get, refl, ap, ◌∙◌, sym, subst, inl, inr}
 use Rattle.bt_ports.specs.declared.outside.Intake as Intake
 use Rattle.bt_ports.specs.declared.outside.Sink as Sink
 use Rattle.bt_ports.specs.declared.outside.Answerer as Answerer
@@ -8,7 +8,12 @@ use Rattle.bt_ports.specs.declared.parts.Txn.{Txn}
 use Rattle.bt_desk.specs.DeskView.{DeskView}
 use Rattle.bt_desk.specs.Calls.{SameRun, OnlyAdmits, Delivers}
 use Rattle.bt_desk.specs.History.{Settled}
-use Rattle.bt_top.specs.Carries.{SamePlaces}
+use Rattle.bt_desk.specs.Calls.{Admits, AdmitFaults}
+use Rattle.bt_desk.specs.declared.parts.Admit.{Admit}
+use Rattle.bt_desk.specs.declared.parts.Admit.TheVariants as admit
+use Rattle.bt_desk.specs.declared.report.Report.{Report}
+use Rattle.bt_desk.specs.declared.report.Ending.{Ending}
+use Rattle.bt_top.specs.run.Inside.{SamePlaces, CarryFaults}
 
 module _ {I K A C : Type 0} where
   pub same_run-then : (g : Intake.Ghosts I) (gc : Clock.Ghosts C) (d e f : DeskView I K A C) → SameRun g gc d e → SameRun g gc e f → SameRun g gc d f
@@ -34,3 +39,13 @@ module _ {I K A C : Type 0} where
         (was.0, was.1, put.2.placed ∙ was.2);
     answerer = delivers.settles.answers.placed ∙ ap ga.place admits.answerer ∙ p.answerer;
   }
+
+-- the count of faults of a run that an admission ended so
+pub carry-faults : {I K A C : Type 0} (gi : Intake.Ghosts I) (gc : Clock.Ghosts C) (r : Admit) (d e : DeskView I K A C) (f f' : ℕ) → ((t : Txn) → r ≡ admit.Job t → ⊥) → Admits gi gc r d e → AdmitFaults r f f'
+    → CarryFaults e.report.ending f f'
+carry-faults gi gc (admit.Job t) d e f f' none p q = absurd (none t refl)
+carry-faults gi gc admit.Ended d e f f' none p q = subst (λ (x : Option Ending). CarryFaults x f f') (sym (ap (λ (r : Report). r.ending) p.report)) q
+carry-faults gi gc admit.ReadFault d e f f' none p q = subst (λ (x : Option Ending). CarryFaults x f f') (sym (ap (λ (r : Report). r.ending) p.report)) q
+carry-faults gi gc admit.Bound d e f f' none (inl p) q = subst (λ (x : Option Ending). CarryFaults x f f') (sym (ap (λ (r : Report). r.ending) p.report)) q
+carry-faults gi gc admit.Bound d e f f' none (inr p) q = subst (λ (x : Option Ending). CarryFaults x f f') (sym (ap (λ (r : Report). r.ending) p.1.report)) q
+carry-faults gi gc admit.NoMemory d e f f' none p q = subst (λ (x : Option Ending). CarryFaults x f f') (sym (ap (λ (r : Report). r.ending) p.report)) q

@@ -1,9 +1,10 @@
-pub mod Begin
 pub mod BloblFaults
 pub mod BloblLoop
 pub mod BloblTales
 pub mod BloblTurns
 pub mod BloblWhole
-pub mod Carried
 pub mod Carrying
-pub mod Went
+pub mod HandedBack
+pub mod Plans
+pub mod Tales
+pub mod Whole

@@ -2,13 +2,9 @@
 #![tactic(auto)]
 
 pub mod blobl;
-mod carry;
 pub mod command;
-pub mod course;
-mod form;
+pub mod limits;
 mod lines;
-mod openings;
-mod report;
 pub mod run;
 pub mod status;
 mod words;

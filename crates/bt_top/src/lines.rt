@@ -1,7 +1,8 @@
-//! The lines of the report and of the bound, put together without taking memory.
+//! The lines of `err` with numbers, put together without taking memory.
 ghost use Rattle.std.specs.Prelude.{◌≡◌, ◌+◌, ◌++◌, ◌≤◌, length, decimal};
-ghost use Rattle.bt_top.specs.Lines.{taken_line, releases_line, bound_line, long_line};
-ghost use Rattle.bt_top.specs.BloblText as mapping;
+ghost use Rattle.bt_top.specs.Lines.{bound_line, long_line};
+ghost use Rattle.bt_top.specs.run.Report.{taken_line, releases_line};
+ghost use Rattle.bt_top.specs.blobl.Text as mapping;
 
 use crate::blobl::course::MappingFault;
 use arrayvec::ArrayString;

@@ -4,24 +4,24 @@ ghost use Rattle.bt_intake.specs.Answers.{Standing};
 ghost use Rattle.bt_ports.specs.World.{StillTells};
 ghost use Rattle.bt_syntax.specs.Built.{BuiltReading, IsBuilt};
 ghost use Rattle.bt_tree.specs.declared.tree.Mapping.{Mapping};
-ghost use Rattle.bt_top.specs.BloblRun.{BloblCounts, BloblGoes, BloblWent, IsFreshInput, IsNoOpening, IsReading, IsUnread, OpensInput, OpensNone, blobl_lines, blobl_status, pass_status, stop_lines};
+ghost use Rattle.bt_top.specs.blobl.Inside.{IsFreshInput, IsNoOpening, IsReading, IsUnread, OpensInput, OpensNone, IsWithin, TokensSay, lexer_course, parser_course};
+ghost use Rattle.bt_top.specs.blobl.Promise.{BloblCounts, BloblPromise, BloblTells, blobl_lines, blobl_status, pass_status, stop_lines};
+ghost use Rattle.bt_top.specs.blobl.Text.{TextSays};
 ghost use Rattle.bt_lexer.specs.Lines.{HasTokens};
-ghost use Rattle.bt_top.specs.BloblText.{IsWithin, TextSays, TokensSay, lexer_course, parser_course};
-ghost use Rattle.bt_top.specs.Input.{input_bound};
-ghost use Rattle.bt_top.specs.Openings.{source_opening};
-ghost use Rattle.bt_top.specs.declared.blobl.course.BloblCourse.{BloblCourse};
+ghost use Rattle.bt_top.specs.Calls.{source_opening};
+ghost use Rattle.bt_top.specs.Outside.{SaysOnly, over};
 
 use super::course::{BloblCourse, MappingFault, Pass, Stop, faulty};
 use super::lines::map_lines;
+use crate::limits::INPUT_BOUND;
 use crate::lines::{bound_line, fault_line, long_line};
-use crate::report::INPUT_BOUND;
-use crate::run::just;
 use crate::status::Status;
 use bt_intake::intake::LineIntake;
 use bt_lexer::{LexFault, Tokens, lex, one_reading, place, spans_rise};
 use bt_ports::NoMemory;
-use bt_ports::outside::Source;
+use bt_ports::outside::{Answerer, Clock, Sink, Source};
 use bt_ports::parts::{Named, Opened};
+use bt_ports::sequence::Sequence;
 use bt_ports::world::World;
 use bt_ready::Ready;
 use bt_syntax::{SyntaxFault, parse, read_built};
@@ -68,8 +68,8 @@ fn read_mapping(alloc: Global, text: &str) -> Result<Mapping, BloblCourse>
     ensures read { IfOk result (λ m. BuiltReading text.now m) }
     ensures built { IfOk result (λ m. IsBuilt m) }
     ensures unread { IfErr result IsUnread }
-    ensures says { IfErr result (λ came. TextSays came text.now) }
-    ensures within { IfErr result (λ came. IsWithin came text.now) }
+    ensures says { IfErr result (λ course. TextSays course text.now) }
+    ensures within { IfErr result (λ course. IsWithin course text.now) }
 {
     one_reading();
     let tokens = match lex(alloc, text) {
@@ -89,12 +89,12 @@ fn open_stdin<W: World>(world: &mut W) -> Result<W::S, BloblCourse>
     ensures steady { (W.file_faults world.new ≡ W.file_faults world.old) × (W.print_faults world.new ≡ W.print_faults world.old) }
     ensures counted { W.open_faults world.old ≤ W.open_faults world.new }
     ensures course { IfErr result IsNoOpening }
-    ensures failed { IfErr result (λ came. BloblCounts came (W.open_faults world.old) (W.open_faults world.new) (W.print_faults world.old) (W.print_faults world.new)) }
+    ensures failed { IfErr result (λ course. BloblCounts course (W.open_faults world.old) (W.open_faults world.new) (W.print_faults world.old) (W.print_faults world.new)) }
     ensures fresh { IfOk result (λ source. (W.S.faults source ≡ 0) × (IsTrue (W.S.tells source) → W.S.taken source ≡ 0)) }
     ensures opens { IsTrue (W.tells world.new) → OnOk result (W.tale world.new ≡ record (W.tale world.old) { calls = (W.tale world.old).calls ++ source_opening ∷ []; stdin = (W.tale world.new).stdin }) }
     ensures placed { IsTrue (W.tells world.new) → IfOk result (λ source. W.S.place source ≡ length (W.tale world.old).calls + 1) }
     ensures bytes { IsTrue (W.tells world.new) → IfOk result (λ source. IsTrue (W.S.tells source) → W.S.bytes source ≡ (W.tale world.old).stdin) }
-    ensures none { IsTrue (W.tells world.new) → IfErr result (λ came. OpensNone came (W.tale world.old) (W.tale world.new)) }
+    ensures none { IsTrue (W.tells world.new) → IfErr result (λ course. OpensNone course (W.tale world.old) (W.tale world.new)) }
 {
     match world.open_source("stdin") {
         Opened::Got(source) => Ok(source),
@@ -106,13 +106,11 @@ fn open_stdin<W: World>(world: &mut W) -> Result<W::S, BloblCourse>
 // An intake of the lines of the source.
 fn lines_of<S: Source>(alloc: Global, source: S) -> Result<LineIntake<S>, NoMemory>
     requires { IsTrue (S.tells source) → S.taken source ≡ 0 }
-    ensures { IfOk result (λ i. (i.sources.list ≡ record { path = None; source = source } ∷ []) × (i.bound ≡ input_bound) × (i.given ≡ 0) × (i.stopped ≡ None)) }
+    ensures { IfOk result (λ i. (i.sources.list ≡ record { path = None; source = source } ∷ []) × (i.bound ≡ INPUT_BOUND) × (i.given ≡ 0) × (i.stopped ≡ None)) }
 {
-    let sources = just(alloc, Named { path: None, source })?;
-    match LineIntake::make(alloc, sources, INPUT_BOUND) {
-        Ok(intake) => Ok(intake),
-        Err(_) => Err(NoMemory),
-    }
+    let mut sources = Sequence::new(alloc);
+    sources.push(Named { path: None, source })?;
+    Ok(LineIntake::make(alloc, sources, INPUT_BOUND)?)
 }
 
 // Opens the standard input as an intake of lines.
@@ -121,10 +119,10 @@ fn open_lines<W: World>(alloc: Global, world: &mut W) -> Result<LineIntake<W::S>
     ensures steady { (W.file_faults world.new ≡ W.file_faults world.old) × (W.print_faults world.new ≡ W.print_faults world.old) }
     ensures counted { W.open_faults world.old ≤ W.open_faults world.new }
     ensures course { IfErr result IsNoOpening }
-    ensures failed { IfErr result (λ came. BloblCounts came (W.open_faults world.old) (W.open_faults world.new) (W.print_faults world.old) (W.print_faults world.new)) }
-    ensures fresh { IfOk result IsFreshInput }
+    ensures failed { IfErr result (λ course. BloblCounts course (W.open_faults world.old) (W.open_faults world.new) (W.print_faults world.old) (W.print_faults world.new)) }
+    ensures fresh { IfOk result (IsFreshInput ⟦<W::S as Source>⟧) }
     ensures opens { IsTrue (W.tells world.new) → IfOk result (λ i. OpensInput ⟦<W::S as Source>⟧ i (W.tale world.old) (W.tale world.new)) }
-    ensures none { IsTrue (W.tells world.new) → IfErr result (λ came. OpensNone came (W.tale world.old) (W.tale world.new)) }
+    ensures none { IsTrue (W.tells world.new) → IfErr result (λ course. OpensNone course (W.tale world.old) (W.tale world.new)) }
 {
     let source = open_stdin(world)?;
     match lines_of(alloc, source) {
@@ -138,8 +136,9 @@ fn map_stdin<W: World>(alloc: Global, ready: &Ready, world: &mut W) -> BloblCour
     requires { IsBuilt ready.now.mapping }
     ensures told { StillTells (W.tells world.old) (W.tells world.new) × StillTells (W.tells_printed world.old) (W.tells_printed world.new) × StillTells (W.tells_lines world.old) (W.tells_lines world.new) }
     ensures reads { IsReading result }
+    ensures files { W.file_faults world.new ≡ W.file_faults world.old }
     ensures count { BloblCounts result (W.open_faults world.old) (W.open_faults world.new) (W.print_faults world.old) (W.print_faults world.new) }
-    ensures went { IsTrue (W.tells world.new) → (text : List ℕ) → BuiltReading text ready.now.mapping → BloblWent ⟦<W::S as Source>⟧ text result [] (W.tells_printed world.new) (W.tells_lines world.new) (W.tale world.old) (W.tale world.new) }
+    ensures went { IsTrue (W.tells world.new) → (text : List ℕ) → BuiltReading text ready.now.mapping → BloblTells ⟦<W::S as Source>⟧ text result [] (W.tells_printed world.new) (W.tells_lines world.new) (W.tale world.old) (W.tale world.new) }
 {
     let mut intake = match open_lines(alloc, world) {
         Ok(intake) => intake,
@@ -155,8 +154,9 @@ fn blobl_course<W: World>(alloc: Global, text: &str, world: &mut W) -> BloblCour
     ensures told { StillTells (W.tells world.old) (W.tells world.new) × StillTells (W.tells_printed world.old) (W.tells_printed world.new) × StillTells (W.tells_lines world.old) (W.tells_lines world.new) }
     ensures says { TextSays result text.now }
     ensures within { IsWithin result text.now }
+    ensures files { W.file_faults world.new ≡ W.file_faults world.old }
     ensures count { BloblCounts result (W.open_faults world.old) (W.open_faults world.new) (W.print_faults world.old) (W.print_faults world.new) }
-    ensures went { IsTrue (W.tells world.new) → BloblWent ⟦<W::S as Source>⟧ text.now result [] (W.tells_printed world.new) (W.tells_lines world.new) (W.tale world.old) (W.tale world.new) }
+    ensures went { IsTrue (W.tells world.new) → BloblTells ⟦<W::S as Source>⟧ text.now result [] (W.tells_printed world.new) (W.tells_lines world.new) (W.tale world.old) (W.tale world.new) }
 {
     match read_mapping(alloc, text) {
         Ok(mapping) => map_stdin(alloc, &Ready { mapping }, world),
@@ -166,10 +166,7 @@ fn blobl_course<W: World>(alloc: Global, text: &str, world: &mut W) -> BloblCour
 
 // Says why no more lines are mapped, where it isn't the input's end.
 fn say_stop<W: World>(stop: Stop, world: &mut W)
-    ensures told { StillTells (W.tells world.old) (W.tells world.new) × StillTells (W.tells_printed world.old) (W.tells_printed world.new) × StillTells (W.tells_lines world.old) (W.tells_lines world.new) }
-    ensures steady { (W.file_faults world.new ≡ W.file_faults world.old) × (W.open_faults world.new ≡ W.open_faults world.old) × (W.print_faults world.new ≡ W.print_faults world.old) }
-    ensures same { IsTrue (W.tells world.new) → W.tale world.new ≡ record (W.tale world.old) { lines = (W.tale world.new).lines } }
-    ensures lines { IsTrue (W.tells_lines world.new) → (W.tale world.new).lines ≡ (W.tale world.old).lines ++ stop_lines stop }
+    ensures { SaysOnly ⟦<W as World>⟧ (stop_lines stop) world.old world.new }
 {
     match stop {
         Stop::Ended => {}
@@ -184,10 +181,7 @@ fn say_stop<W: World>(stop: Stop, world: &mut W)
 // Says the line of the command's own fault, where it has one.
 fn say_course<W: World>(course: &BloblCourse, text: &str, world: &mut W)
     requires { IsWithin course.now text.now }
-    ensures told { StillTells (W.tells world.old) (W.tells world.new) × StillTells (W.tells_printed world.old) (W.tells_printed world.new) × StillTells (W.tells_lines world.old) (W.tells_lines world.new) }
-    ensures steady { (W.file_faults world.new ≡ W.file_faults world.old) × (W.open_faults world.new ≡ W.open_faults world.old) × (W.print_faults world.new ≡ W.print_faults world.old) }
-    ensures same { IsTrue (W.tells world.new) → W.tale world.new ≡ record (W.tale world.old) { lines = (W.tale world.new).lines } }
-    ensures lines { IsTrue (W.tells_lines world.new) → (W.tale world.new).lines ≡ (W.tale world.old).lines ++ blobl_lines course.now text.now }
+    ensures { SaysOnly ⟦<W as World>⟧ (blobl_lines course.now text.now) world.old world.new }
 {
     match course {
         BloblCourse::Faulty { fault, at } => {
@@ -242,8 +236,7 @@ pub fn blobl_command<W: World>(
     world: &mut W,
 ) -> Status
     requires flags { (raw ≡ false) × (pretty ≡ false) }
-    ensures told { StillTells (W.tells world.old) (W.tells world.new) × StillTells (W.tells_printed world.old) (W.tells_printed world.new) × StillTells (W.tells_lines world.old) (W.tells_lines world.new) }
-    ensures goes { (course : BloblCourse) × BloblGoes ⟦<W::S as Source>⟧ mapping.now course result (W.tells world.new) (W.tells_printed world.new) (W.tells_lines world.new) (W.tale world.old) (W.tale world.new) (W.open_faults world.old) (W.open_faults world.new) (W.print_faults world.old) (W.print_faults world.new) }
+    ensures { BloblPromise (over ⟦<W as World>⟧ ⟦<W::S as Source>⟧ ⟦<W::K as Sink>⟧ ⟦<W::A as Answerer>⟧ ⟦<W::C as Clock>⟧) mapping.now result world.old world.new }
 {
     let course = blobl_course(alloc, mapping, world);
     say_course(&course, mapping, world);

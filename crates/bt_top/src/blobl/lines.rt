@@ -5,7 +5,7 @@ ghost use Rattle.bt_intake.specs.Sources.{fault_count, SourcesKept};
 ghost use Rattle.bt_ports.specs.Faults.{Rose};
 ghost use Rattle.bt_ports.specs.World.{StillTells};
 ghost use Rattle.bt_syntax.specs.Built.{IsBuilt};
-ghost use Rattle.bt_top.specs.BloblLines.{Going, Passed, Turns, PrintsOnly};
+ghost use Rattle.bt_top.specs.blobl.Inside.{LineFaults, PassFaults, Going, Passed, TurnResult, PrintsOnly};
 ghost use Rattle.bt_top.specs.declared.blobl.course.Stop.{Stop};
 
 use super::course::{Pass, Stop};
@@ -35,10 +35,10 @@ fn map_next<W: World>(
     ensures kept { SourcesKept ⟦<W::S as Source>⟧ intake.old.sources.list intake.new.sources.list }
     ensures bound { intake.new.bound ≡ intake.old.bound }
     ensures standing { Standing ⟦<W::S as Source>⟧ intake.new }
-    ensures read_fault { IfErr result (λ stop. stop ≡ Stop.ReadFault → 1 ≤ fault_count ⟦<W::S as Source>⟧ intake.new.sources.list) }
+    ensures faults { LineFaults result (fault_count ⟦<W::S as Source>⟧ intake.old.sources.list) (fault_count ⟦<W::S as Source>⟧ intake.new.sources.list) }
     ensures goes { OnOk result (intake.new.stopped ≡ None) }
     ensures lowers { OnOk result ((intake.new.bound - intake.new.given) + 1 ≤ intake.old.bound - intake.old.given) }
-    ensures turns { Turns ⟦<W::S as Source>⟧ ready.now.mapping n result intake.old intake.new (W.tells world.new) (W.tells_printed world.new) (W.tells_lines world.new) (W.tale world.old) (W.tale world.new) }
+    ensures turns { TurnResult ⟦<W::S as Source>⟧ ready.now.mapping n result intake.old intake.new (W.tells world.new) (W.tells_printed world.new) (W.tells_lines world.new) (W.tale world.old) (W.tale world.new) }
 {
     match intake.next() {
         Next::Batch(items) => map_line(alloc, ready, n, items, world),
@@ -67,7 +67,7 @@ pub(crate) fn map_lines<W: World>(
     ensures kept { SourcesKept ⟦<W::S as Source>⟧ intake.old.sources.list intake.new.sources.list }
     ensures bound { intake.new.bound ≡ intake.old.bound }
     ensures standing { Standing ⟦<W::S as Source>⟧ intake.new }
-    ensures read_fault { result.stop ≡ Stop.ReadFault → 1 ≤ fault_count ⟦<W::S as Source>⟧ intake.new.sources.list }
+    ensures faults { PassFaults result.stop (fault_count ⟦<W::S as Source>⟧ intake.old.sources.list) (fault_count ⟦<W::S as Source>⟧ intake.new.sources.list) }
     ensures passed { Passed ⟦<W::S as Source>⟧ ready.now.mapping result intake.new (W.tells world.new) (W.tells_printed world.new) (W.tells_lines world.new) (W.tale world.old) (W.tale world.new) }
 {
     let mut n = 0;

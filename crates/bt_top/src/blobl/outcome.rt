@@ -3,8 +3,8 @@ ghost use Rattle.std.specs.Prelude.{◌≡◌, ◌≤◌, ◌++◌, ◌∷◌, [
 ghost use Rattle.bt_syntax.specs.Built.{IsBuilt};
 ghost use Rattle.bt_ports.specs.Faults.{Rose};
 ghost use Rattle.bt_ports.specs.World.{StillTells};
-ghost use Rattle.bt_top.specs.Blobl as spec;
-ghost use Rattle.bt_top.specs.BloblLines.{Ends, PrintsOnly};
+ghost use Rattle.bt_top.specs.blobl.Meaning as spec;
+ghost use Rattle.bt_top.specs.blobl.Inside.{LineResult, PrintsOnly};
 ghost use Rattle.bt_top.specs.declared.blobl.course.Stop.{Stop};
 
 use super::course::{Outcome, Stop};
@@ -93,7 +93,7 @@ fn tell<W: World>(alloc: Global, n: u64, outcome: Outcome, world: &mut W) -> Res
     ensures counted { OnOk result (W.print_faults world.new ≡ W.print_faults world.old) }
     ensures failed { IfErr result (λ stop. stop ≡ Stop.PrintFailed → Rose (W.print_faults world.old) (W.print_faults world.new)) }
     ensures only { IsTrue (W.tells world.new) → PrintsOnly (W.tale world.old) (W.tale world.new) }
-    ensures ends { Ends result n outcome (W.tells world.new) (W.tells_printed world.new) (W.tells_lines world.new) (W.tale world.old) (W.tale world.new) }
+    ensures ends { LineResult result n outcome (W.tells world.new) (W.tells_printed world.new) (W.tells_lines world.new) (W.tale world.old) (W.tale world.new) }
 {
     match outcome {
         Outcome::Prints(bytes) => match world.print(bytes.as_slice()) {
@@ -123,7 +123,7 @@ pub(crate) fn map_line<W: World>(
     ensures counted { OnOk result (W.print_faults world.new ≡ W.print_faults world.old) }
     ensures failed { IfErr result (λ stop. stop ≡ Stop.PrintFailed → Rose (W.print_faults world.old) (W.print_faults world.new)) }
     ensures only { IsTrue (W.tells world.new) → PrintsOnly (W.tale world.old) (W.tale world.new) }
-    ensures ends { Ends result n (spec.outcome ready.now.mapping (spec.line_bytes items.list)) (W.tells world.new) (W.tells_printed world.new) (W.tells_lines world.new) (W.tale world.old) (W.tale world.new) }
+    ensures ends { LineResult result n (spec.outcome ready.now.mapping (spec.line_bytes items.list)) (W.tells world.new) (W.tells_printed world.new) (W.tells_lines world.new) (W.tale world.old) (W.tale world.new) }
 {
     match outcome(alloc, ready, line_bytes(alloc, items)) {
         Ok(outcome) => tell(alloc, n, outcome, world),

@@ -1,17 +1,20 @@
+use Rattle.std.proofs.Common.{◌∙◌}
 use Rattle.bt_top.proofs.BloblWhole.{went-said, counts-named}
 use Rattle.bt_top.proofs.blobl.command.blobl_command.Goals as goal
 
-pub returns-clause-goes : goal.returns-clause-goes
-returns-clause-goes g c =
+pub returns : goal.returns
+returns g c =
     let course = c.blobl_course-course.result in
-    let told = c.say_course.ensures.told in (
-      course,
-      record {
-        status = c.course_status.ensures;
-        text_says = c.blobl_course-course.ensures.says;
-        count = counts-named course _ _ _ _ _ _ c.say_course.ensures.steady.1 c.say_course.ensures.steady.2 c.blobl_course-course.ensures.count;
-        went = λ t.
-            went-said g.W.S.Source c.args.mapping.now _ _ _ _ _ _ _ _ told.1 told.2 (c.say_course.ensures.same t) c.say_course.ensures.lines course
-            (c.blobl_course-course.ensures.went (told.0 t));
-      },
-    )
+    let before = c.blobl_course-course.ensures in
+    let said = c.say_course.ensures in
+    record {
+      course = course;
+      status = c.course_status.ensures;
+      text_says = before.says;
+      told = (λ t. before.told.0 (said.told.0 t), λ t. before.told.1 (said.told.1 t), λ t. before.told.2 (said.told.2 t));
+      counts = counts-named course _ _ _ _ _ _ said.counts.1 said.counts.2 before.count;
+      files = said.counts.0 ∙ before.files;
+      tells = λ t.
+          went-said g.W.S.Source c.args.mapping.now _ _ _ _ _ _ _ _ said.told.1 said.told.2 (said.only t) said.said course
+          (before.went (said.told.0 t));
+    }

@@ -1,5 +1,5 @@
 use Rattle.std.proofs.Common.{sym, subst}
-use Rattle.bt_top.specs.BloblText.{TextSays}
+use Rattle.bt_top.specs.blobl.Text.{TextSays}
 use Rattle.bt_top.specs.declared.blobl.course.BloblCourse.{BloblCourse}
 use Rattle.bt_top.proofs.BloblFaults.{says-lexed, says-other}
 use Rattle.bt_top.proofs.blobl.command.read_mapping.Goals as goal

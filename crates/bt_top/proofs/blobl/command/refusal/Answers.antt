@@ -1,5 +1,5 @@
 use Rattle.std.proofs.Common.{sym, subst, ◌∙◌}
-use Rattle.bt_top.specs.BloblText.{TokensSay}
+use Rattle.bt_top.specs.blobl.Inside.{TokensSay}
 use Rattle.bt_top.specs.declared.blobl.course.BloblCourse.{BloblCourse}
 use Rattle.bt_top.proofs.BloblFaults.{says-refused}
 use Rattle.bt_top.proofs.blobl.command.refusal.Goals as goal

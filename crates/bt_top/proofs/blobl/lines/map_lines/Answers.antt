@@ -1,4 +1,6 @@
-use Rattle.std.proofs.Common.{◌≡◌, ◌∙◌, refl, arith, IsTrue}
+use Rattle.std.proofs.Common.{◌∙◌, refl, arith, subst}
+use Rattle.bt_intake.specs.Sources.{fault_count}
+use Rattle.bt_top.specs.blobl.Inside.{PassFaults}
 use Rattle.bt_intake.proofs.SourceLists.{sources_kept-same, sources_kept-then}
 use Rattle.bt_top.proofs.BloblLoop.{going-begins, going-turned, passed-halted}
 use Rattle.bt_top.proofs.BloblTales.{prints_only-then}
@@ -11,6 +13,7 @@ lines-init g c = record {
   steady = (refl, refl);
   prints = refl;
   only = λ t. refl;
+  faults = refl;
   kept = sources_kept-same g.W.S.Source _;
   bound = refl;
   room = omega arith;
@@ -24,6 +27,10 @@ pub returns-in-Err-clause-passed : goal.returns-in-Err-clause-passed
 returns-in-Err-clause-passed g c =
     passed-halted g.W.S.Source _ _ _ _ _ _ _ _ _ _ _ _ _ _ c.in-Err.ensures.told c.lines.invariant.going _ c.in-Err.ensures.turns.0 c.in-Err.ensures.turns.1
 
+pub returns-in-Err-clause-faults : goal.returns-in-Err-clause-faults
+returns-in-Err-clause-faults g c =
+    subst (λ n. PassFaults c.in-Err.stop n (fault_count g.W.S.Source c.map_next.new.intake.sources.list)) c.lines.invariant.faults c.in-Err.ensures.faults
+
 pub lines-preserved : goal.lines-preserved
 lines-preserved g c =
     let was = c.lines.invariant in
@@ -34,6 +41,7 @@ lines-preserved g c =
       steady = (c.in-Ok.ensures.steady.0 ∙ was.steady.0, c.in-Ok.ensures.steady.1 ∙ was.steady.1);
       prints = c.in-Ok.ensures.counted ∙ was.prints;
       only = λ t. prints_only-then (g.W.World.tale c.args.world.now) (g.W.World.tale c.lines.world) (g.W.World.tale c.map_next.new.world) (was.only (told.0 t)) (c.in-Ok.ensures.only t);
+      faults = c.in-Ok.ensures.faults ∙ was.faults;
       kept = sources_kept-then g.W.S.Source _ _ _ was.kept c.in-Ok.ensures.kept;
       bound = c.in-Ok.ensures.bound ∙ was.bound;
       room = omega (arith, was.room, c.in-Ok.ensures.lowers);

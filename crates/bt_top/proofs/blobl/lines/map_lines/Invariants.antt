@@ -1,7 +1,7 @@
-use Rattle.std.specs.Prelude.{◌≡◌, ℕ, ◌+◌, ◌-◌, ◌≤◌, None, IsTrue}
-use Rattle.bt_intake.specs.Sources.{SourcesKept}
+use Rattle.std.specs.Prelude.{◌≡◌, ◌+◌, ◌-◌, ◌≤◌, None, IsTrue}
+use Rattle.bt_intake.specs.Sources.{fault_count, SourcesKept}
 use Rattle.bt_ports.specs.World.{StillTells}
-use Rattle.bt_top.specs.BloblLines.{Going, PrintsOnly}
+use Rattle.bt_top.specs.blobl.Inside.{Going, PrintsOnly}
 use Rattle.bt_top.proofs.blobl.lines.map_lines.Given as goal
 
 abbrev pub invariant-lines : goal.invariant-lines
@@ -11,6 +11,7 @@ invariant-lines g l = record {
   steady : (g.W.World.file_faults l.world ≡ g.W.World.file_faults l.initial.world) × (g.W.World.open_faults l.world ≡ g.W.World.open_faults l.initial.world);
   prints : g.W.World.print_faults l.world ≡ g.W.World.print_faults l.initial.world;
   only : IsTrue (g.W.World.tells l.world) → PrintsOnly (g.W.World.tale l.initial.world) (g.W.World.tale l.world);
+  faults : fault_count g.W.S.Source l.intake.sources.list ≡ fault_count g.W.S.Source l.initial.intake.sources.list;
   kept : SourcesKept g.W.S.Source l.initial.intake.sources.list l.intake.sources.list;
   bound : l.intake.bound ≡ l.initial.intake.bound;
   room : l.n + (l.intake.bound - l.intake.given) ≤ l.initial.intake.bound;

@@ -1,0 +1,4 @@
+pub mod Inside
+pub mod Meaning
+pub mod Promise
+pub mod Text
