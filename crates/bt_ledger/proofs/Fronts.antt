@@ -10,6 +10,15 @@ use Rattle.bt_ledger.specs.declared.slot.Slot.TheVariants.{Free}
 use Rattle.bt_steps.proofs.HoldLaws.{count_le}
 use Rattle.bt_ledger.specs.Book.{Booked}
 use Rattle.bt_steps.proofs.PopLaws.{waits_le}
+use Rattle.std.proofs.Common.{subst, IsSome, ◌∙◌, inl, inr, sym, Some}
+use Rattle.bt_demand.specs.Find.{below}
+use Rattle.bt_demand.specs.Steps.{release}
+use Rattle.bt_ledger.specs.Book.{IsFront}
+use Rattle.bt_ledger.specs.Calls.{FrontReleased, Released}
+use Rattle.bt_ledger.specs.Ledger.{with_part}
+use Rattle.bt_ledger.proofs.Room.{part_cases}
+use Rattle.bt_steps.proofs.Below.{below_there}
+use Rattle.bt_steps.proofs.HoldLaws.{count_release}
 
 part_there : (n : ℕ) (ps : List Part) (p : ℕ) → 1 ≤ waits_at n (tree_of ps p) → p < length ps
 part_there n [] p h = absurd (omega arith)
@@ -31,3 +40,22 @@ front_part l n e es b h =
     let o = b.single e.slot e.part n in
     let le = count_le (λ m g. eqb m n && is_waiting g) (λ m _. eqb m n) (part_tree l e.slot e.part) (λ m g. waits_le g (eqb m n)) in
     ((slot_there n l.slots e.slot e.part w, part_there n (parts_in (slot_at l e.slot)) e.part w), omega arith)
+
+front_go : (l k : Ledger) (n : ℕ) (e : Entry) (es : List Entry) → IsFront l n e → FrontReleased es l n (Some e) k → IsSome (below n (part_tree k e.slot e.part))
+front_go l k n e [] f h = cc
+front_go l k n e (x ∷ es) f h =
+    let same : e ≡ x = cc in
+    let t = part_tree l x.slot x.part in
+    let part : IsPart l x.slot x.part = subst (λ (y : Entry). IsPart l y.slot y.part) same f.part in
+    let waits : waits_at n (part_tree l x.slot x.part) ≡ 1 = ap (λ (y : Entry). waits_at n (part_tree l y.slot y.part)) (sym same) ∙ f.waits in
+    let le = count_le (λ m g. eqb m n && is_waiting g) (λ m _. eqb m n) (part_tree l x.slot x.part) (λ m g. waits_le g (eqb m n)) in
+    let kept = count_release (λ m _. eqb m n) n (part_tree l x.slot x.part) (λ m g. refl) in
+    let there = below_there n (release n (part_tree l x.slot x.part)) (omega arith) in
+    let at : part_tree (with_part l x.slot x.part (release n (part_tree l x.slot x.part))) x.slot x.part ≡ release n (part_tree l x.slot x.part) =
+    elim (part_cases l x.slot x.part (release n (part_tree l x.slot x.part)) x.slot x.part part) [ inl i ↦ i.1 | inr i ↦ absurd (i.0 refl refl) ] in
+    let after : part_tree k x.slot x.part ≡ release n (part_tree l x.slot x.part) = ap (λ (m : Ledger). part_tree m x.slot x.part) h.1 ∙ at in
+    subst (λ (y : Entry). IsSome (below n (part_tree k y.slot y.part))) (sym same) (subst (λ u. IsSome (below n u)) (sym after) there)
+
+-- the hold that the front of a chain released is still there
+pub front_below : (l k : Ledger) (n : ℕ) (e : Entry) → IsFront l n e → Released l n (Some e) k → IsSome (below n (part_tree k e.slot e.part))
+front_below l k n e f h = front_go l k n e (chain_at l n) f h
