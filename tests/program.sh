@@ -8,6 +8,12 @@ work=$(mktemp -d) || exit 1
 trap 'rm -rf "$work"' EXIT
 printf '{}' > "$work/c.json"
 printf 'a\n\nb' > "$work/input"
+ln -s "$program" "$work/$(printf '\377')"
+long=$(head -c 60000 /dev/zero | tr '\0' a)
+printf '%s\n%s\nc\n' "$long" "$long" > "$work/long"
+half=$(head -c 700 /dev/zero | tr '\0' a)
+other=$(head -c 700 /dev/zero | tr '\0' b)
+printf '%s\n%s\nc\n' "$half" "$other" > "$work/records"
 failed=0
 
 # case NAME STATUS LINE COMMAND: the command's status, and its standard error's first line
@@ -29,10 +35,38 @@ run() { "$program" run -c "$1" < "$work/input"; }
 closed_output() { "$program" run -c "$work/c.json" < "$work/input" >&-; }
 full_output() { "$program" run -c "$work/c.json" < "$work/input" > /dev/full; }
 no_text() { "$program" run -c "$(printf '\377')" < "$work/input"; }
+foreign_name() { "$work/$(printf '\377')" run -c "$work/c.json" < "$work/input"; }
+# a reader that left before the first record
+left_output() { (sleep 1; "$program" run -c "$work/c.json" < "$work/input") > "$work/pipe"; }
+# a reader that leaves while the second record, which has no room in the pipe, is being written
+leaving_output() { "$program" run -c "$work/c.json" < "$work/long" > "$work/pipe"; }
+# a file of two blocks at most, at whose end the second record is torn
+short_output() { (ulimit -f 2; trap '' XFSZ; "$program" run -c "$work/c.json" < "$work/records" > "$work/short"); }
 blobl() { printf '{"a":{"b":7}}\n{"a":1}\n' | "$program" blobl "$1"; }
-full_blobl() { printf '{}\n' | "$program" blobl 'root = 1' > /dev/full; }
-closed_blobl() { printf '{}\n' | "$program" blobl 'root = 1' >&-; }
-directory_blobl() { "$program" blobl 'root = 1' < "$work"; }
+full_foreign_name() { "$work/$(printf '\377')" run -c "$work/c.json" < "$work/input"; }
+# a reader that left before the first record
+left_output() { (sleep 1; "$program" run -c "$work/c.json" < "$work/input") > "$work/pipe"; }
+# a reader that leaves while the second record, which has no room in the pipe, is being written
+leaving_output() { "$program" run -c "$work/c.json" < "$work/long" > "$work/pipe"; }
+# a file of two blocks at most, at whose end the second record is torn
+short_output() { (ulimit -f 2; trap '' XFSZ; "$program" run -c "$work/c.json" < "$work/records" > "$work/short"); }
+blobl() { printf '{}\n' | "$program" blobl 'root = 1' > /dev/full; }
+closed_foreign_name() { "$work/$(printf '\377')" run -c "$work/c.json" < "$work/input"; }
+# a reader that left before the first record
+left_output() { (sleep 1; "$program" run -c "$work/c.json" < "$work/input") > "$work/pipe"; }
+# a reader that leaves while the second record, which has no room in the pipe, is being written
+leaving_output() { "$program" run -c "$work/c.json" < "$work/long" > "$work/pipe"; }
+# a file of two blocks at most, at whose end the second record is torn
+short_output() { (ulimit -f 2; trap '' XFSZ; "$program" run -c "$work/c.json" < "$work/records" > "$work/short"); }
+blobl() { printf '{}\n' | "$program" blobl 'root = 1' >&-; }
+directory_foreign_name() { "$work/$(printf '\377')" run -c "$work/c.json" < "$work/input"; }
+# a reader that left before the first record
+left_output() { (sleep 1; "$program" run -c "$work/c.json" < "$work/input") > "$work/pipe"; }
+# a reader that leaves while the second record, which has no room in the pipe, is being written
+leaving_output() { "$program" run -c "$work/c.json" < "$work/long" > "$work/pipe"; }
+# a file of two blocks at most, at whose end the second record is torn
+short_output() { (ulimit -f 2; trap '' XFSZ; "$program" run -c "$work/c.json" < "$work/records" > "$work/short"); }
+blobl() { "$program" blobl 'root = 1' < "$work"; }
 directory_input() { "$program" run -c "$work/c.json" < "$work"; }
 
 case_of "lines are carried" 0 "taken 3 acknowledged 3 refused 0" run "$work/c.json"
@@ -45,6 +79,14 @@ if [ "$(id -u)" -ne 0 ]; then
 fi
 case_of "a closed standard output" 1 "taken 3 acknowledged 0 refused 3" closed_output
 case_of "a full standard output" 1 "taken 3 acknowledged 0 refused 3" full_output
+mkfifo "$work/pipe"
+(: < "$work/pipe") &
+case_of "a reader that left the standard output" 1 "taken 3 acknowledged 0 refused 3" left_output
+(head -c 10 > "$work/read"; sleep 1) < "$work/pipe" &
+case_of "a reader that leaves within a record" 1 "taken 3 acknowledged 1 refused 2" leaving_output
+wait
+case_of "a record that is torn" 1 "taken 3 acknowledged 1 refused 2" short_output
+[ "$(tail -c 1 "$work/short")" = b ] || { echo "FAILED nothing is written behind a torn record"; failed=1; }
 case_of "lines are mapped" 0 "" blobl 'root = this.a.b'
 printf '7\nnull\n' | cmp -s - "$work/out" || { echo "FAILED the lines that were mapped"; failed=1; }
 case_of "a mapping with a fault" 3 "mapping: syntax at line 1 column 14" blobl 'root = a | b + c'
@@ -53,6 +95,7 @@ case_of "a full standard output of blobl" 5 "out: write fault" full_blobl
 case_of "a closed standard output of blobl" 5 "out: write fault" closed_blobl
 case_of "a directory as standard input of blobl" 4 "source: read fault" directory_blobl
 case_of "a word that is no text" 2 "usage: benthos run, lint, test, blobl or load" no_text
+case_of "a program name that is no text" 0 "taken 3 acknowledged 3 refused 0" foreign_name
 case_of "a directory as standard input" 4 "source: read fault" directory_input
 case_of "no words" 2 "usage: benthos run, lint, test, blobl or load" "$program"
 exit $failed

@@ -8,27 +8,16 @@ mod source;
 mod stream;
 #[cfg(test)]
 mod tests;
+mod words;
 mod world;
 
+use bt_ports::NoMemory;
+use bt_ports::world::World;
 use bt_top::command::benthos;
 use bt_top::status::Status;
-use std::env;
-use std::io::ErrorKind;
 use std::process::ExitCode;
+use words::words;
 use world::RealWorld;
-
-// The words after the program's name. A word that isn't UTF-8 makes them none, which is no command.
-fn words(rt: &HostRuntime) -> Result<Vec<String>, Status> {
-    match env::args(rt) {
-        Ok(args) => args.skip(1).collect(rt.alloc()).map_err(|_| Status::Memory),
-        Err(error) => {
-            if error.kind() == ErrorKind::OutOfMemory {
-                return Err(Status::Memory);
-            }
-            Ok(Vec::new(rt.alloc()))
-        }
-    }
-}
 
 fn exit_code(status: Status) -> ExitCode {
     ExitCode::from(match status {
@@ -44,11 +33,14 @@ fn exit_code(status: Status) -> ExitCode {
 }
 
 fn main(rt: HostRuntime) -> ExitCode {
-    let words = match words(&rt) {
-        Ok(words) => words,
-        Err(status) => return exit_code(status),
-    };
     let alloc = rt.alloc();
+    let words = words(&rt);
     let mut world = RealWorld::make(rt);
-    exit_code(benthos(alloc, words.as_slice(), &mut world))
+    exit_code(match words {
+        Ok(words) => benthos(alloc, words.as_slice(), &mut world),
+        Err(NoMemory) => {
+            world.err(b"no memory");
+            Status::Memory
+        }
+    })
 }

@@ -100,6 +100,17 @@ fn a_file_is_read_within_the_limit(rt: HostRuntime) -> Result<(), Fail> {
 }
 
 #[test]
+fn a_second_standard_input_has_no_bytes(rt: HostRuntime) -> Result<(), Fail> {
+    let mut world = RealWorld::make(rt);
+    assert!(rt; matches!(world.open_source("stdin"), Opened::Got(_)));
+    let Opened::Got(mut second) = world.open_source("stdin") else {
+        return Err("not opened".into());
+    };
+    assert_eq!(rt; second.read(&mut [0u8; 2]), Read::End);
+    Ok(())
+}
+
+#[test]
 fn the_clock_gives_milliseconds_since_1970(rt: HostRuntime) -> Result<(), Fail> {
     let mut clock = RealWorld::make(rt).take_clock();
     assert!(rt; clock.now() > 1_600_000_000_000);
