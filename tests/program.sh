@@ -43,30 +43,9 @@ leaving_output() { "$program" run -c "$work/c.json" < "$work/long" > "$work/pipe
 # a file of two blocks at most, at whose end the second record is torn
 short_output() { (ulimit -f 2; trap '' XFSZ; "$program" run -c "$work/c.json" < "$work/records" > "$work/short"); }
 blobl() { printf '{"a":{"b":7}}\n{"a":1}\n' | "$program" blobl "$1"; }
-full_foreign_name() { "$work/$(printf '\377')" run -c "$work/c.json" < "$work/input"; }
-# a reader that left before the first record
-left_output() { (sleep 1; "$program" run -c "$work/c.json" < "$work/input") > "$work/pipe"; }
-# a reader that leaves while the second record, which has no room in the pipe, is being written
-leaving_output() { "$program" run -c "$work/c.json" < "$work/long" > "$work/pipe"; }
-# a file of two blocks at most, at whose end the second record is torn
-short_output() { (ulimit -f 2; trap '' XFSZ; "$program" run -c "$work/c.json" < "$work/records" > "$work/short"); }
-blobl() { printf '{}\n' | "$program" blobl 'root = 1' > /dev/full; }
-closed_foreign_name() { "$work/$(printf '\377')" run -c "$work/c.json" < "$work/input"; }
-# a reader that left before the first record
-left_output() { (sleep 1; "$program" run -c "$work/c.json" < "$work/input") > "$work/pipe"; }
-# a reader that leaves while the second record, which has no room in the pipe, is being written
-leaving_output() { "$program" run -c "$work/c.json" < "$work/long" > "$work/pipe"; }
-# a file of two blocks at most, at whose end the second record is torn
-short_output() { (ulimit -f 2; trap '' XFSZ; "$program" run -c "$work/c.json" < "$work/records" > "$work/short"); }
-blobl() { printf '{}\n' | "$program" blobl 'root = 1' >&-; }
-directory_foreign_name() { "$work/$(printf '\377')" run -c "$work/c.json" < "$work/input"; }
-# a reader that left before the first record
-left_output() { (sleep 1; "$program" run -c "$work/c.json" < "$work/input") > "$work/pipe"; }
-# a reader that leaves while the second record, which has no room in the pipe, is being written
-leaving_output() { "$program" run -c "$work/c.json" < "$work/long" > "$work/pipe"; }
-# a file of two blocks at most, at whose end the second record is torn
-short_output() { (ulimit -f 2; trap '' XFSZ; "$program" run -c "$work/c.json" < "$work/records" > "$work/short"); }
-blobl() { "$program" blobl 'root = 1' < "$work"; }
+full_blobl() { printf '{}\n' | "$program" blobl 'root = 1' > /dev/full; }
+closed_blobl() { printf '{}\n' | "$program" blobl 'root = 1' >&-; }
+directory_blobl() { "$program" blobl 'root = 1' < "$work"; }
 directory_input() { "$program" run -c "$work/c.json" < "$work"; }
 
 case_of "lines are carried" 0 "taken 3 acknowledged 3 refused 0" run "$work/c.json"
