@@ -16,28 +16,11 @@ use std::alloc::{AllocError, Global};
 /// A case, by the fields of its line. A field that is missing is empty, and a number that can't be read is 0.
 #[derive(Clone, Copy)]
 pub struct Case<'a> {
-    pub name: &'a str,
-    words: &'a str,
-    config: &'a str,
-    input: &'a str,
-    open: u64,
-    read: u64,
-    put: u64,
-    answer: u64,
-    print: u64,
+    line: &'a str,
 }
 
 fn number(field: &str) -> u64 {
     field.parse::<u64>().unwrap_or(0)
-}
-
-// The list of the call of this number.
-fn call(alloc: Global, number: u64) -> Result<Calls, NoMemory> {
-    let mut calls = Sequence::new(alloc);
-    if number > 0 && calls.push(number).is_err() {
-        return Err(NoMemory);
-    }
-    Ok(calls)
 }
 
 // The word, with a line feed in place of each caret.
@@ -55,18 +38,34 @@ fn word_of(alloc: Global, word: &str) -> Result<String, AllocError> {
 impl<'a> Case<'a> {
     /// The case that the line has.
     pub fn read(line: &'a str) -> Case<'a> {
-        let mut fields = line.split(';');
-        Case {
-            name: fields.next().unwrap_or(""),
-            words: fields.next().unwrap_or(""),
-            config: fields.next().unwrap_or(""),
-            input: fields.next().unwrap_or(""),
-            open: number(fields.next().unwrap_or("")),
-            read: number(fields.next().unwrap_or("")),
-            put: number(fields.next().unwrap_or("")),
-            answer: number(fields.next().unwrap_or("")),
-            print: number(fields.next().unwrap_or("")),
+        Case { line }
+    }
+
+    /// Its name.
+    pub fn name(&self) -> &'a str {
+        self.line.split(';').next().unwrap_or("")
+    }
+
+    // The value of the field of that name, which is empty where there is none.
+    fn field(&self, name: &str) -> &'a str {
+        for part in self.line.split(';') {
+            if let Some((key, value)) = part.split_once('=') {
+                if key == name {
+                    return value;
+                }
+            }
         }
+        ""
+    }
+
+    // The list of the one call whose number the field of that name has.
+    fn calls(&self, alloc: Global, name: &str) -> Result<Calls, NoMemory> {
+        let mut calls = Sequence::new(alloc);
+        let number = number(self.field(name));
+        if number > 0 {
+            calls.push(number)?;
+        }
+        Ok(calls)
     }
 
     // The standard input, which is read in pieces of two bytes.
@@ -74,11 +73,11 @@ impl<'a> Case<'a> {
         ensures { IfOk result (λ source. source.made ≡ 0) }
     {
         let mut bytes = Vec::new(alloc);
-        for byte in self.input.as_bytes() {
+        for byte in self.field("input").as_bytes() {
             let byte = if *byte == b'|' { b'\n' } else { *byte };
-            bytes.push(byte).map_err(|_| NoMemory)?;
+            bytes.push(byte)?;
         }
-        Ok(MemSource::make(Blob::from_vec(bytes), 2, call(alloc, self.read)?))
+        Ok(MemSource::make(Blob::from_vec(bytes), 2, self.calls(alloc, "read")?))
     }
 
     // The calls that fail.
@@ -86,17 +85,15 @@ impl<'a> Case<'a> {
         let mut sinks = Sequence::new(alloc);
         let put = SinkCall {
             name: Text::make(alloc, "stdout")?,
-            call: self.put,
+            call: number(self.field("put")),
         };
-        if sinks.push(put).is_err() {
-            return Err(NoMemory);
-        }
+        sinks.push(put)?;
         Ok(Failing {
-            opens: call(alloc, self.open)?,
+            opens: self.calls(alloc, "open")?,
             files: Sequence::new(alloc),
             sinks,
-            answers: call(alloc, self.answer)?,
-            prints: call(alloc, self.print)?,
+            answers: self.calls(alloc, "answer")?,
+            prints: self.calls(alloc, "print")?,
         })
     }
 
@@ -105,11 +102,9 @@ impl<'a> Case<'a> {
         let mut files = Sequence::new(alloc);
         let file = File {
             name: Text::make(alloc, "c.json")?,
-            bytes: Blob::make(alloc, self.config.as_bytes())?,
+            bytes: Blob::make(alloc, self.field("file").as_bytes())?,
         };
-        if files.push(file).is_err() {
-            return Err(NoMemory);
-        }
+        files.push(file)?;
         let stdin = self.stdin(alloc)?;
         let clock = MemClock::make(Sequence::new(alloc));
         Ok(MemWorld::make(alloc, files, stdin, clock, self.failing(alloc)?))
@@ -118,9 +113,8 @@ impl<'a> Case<'a> {
     /// Does what the words ask over the world of the case.
     pub fn run(&self, alloc: Global) -> Result<(Status, MemWorld), NoMemory> {
         let mut words = Vec::new(alloc);
-        for word in self.words.split('~') {
-            let word = word_of(alloc, word).map_err(|_| NoMemory)?;
-            words.push(word).map_err(|_| NoMemory)?;
+        for word in self.field("words").split('~') {
+            words.push(word_of(alloc, word)?)?;
         }
         let mut world = self.world(alloc)?;
         let status = benthos(alloc, &words, &mut world);

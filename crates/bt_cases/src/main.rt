@@ -1,9 +1,9 @@
 //! Runs cases over a world in memory, and prints what stands after each.
 //!
-//! A case is a line of the standard input, of nine fields with a semicolon between: its name; the words of the command
-//! line, with a tilde between and a caret for a line feed; the file `c.json`; the input, in which a bar stands for a line
-//! feed; and the numbers, counted from 1, of the opening, the read, the put, the answer and the print that fail, 0 for
-//! none. What stands after it is its status, the accepted records (`+`, transaction, part, leaf, batch, bytes), the
+//! A case is a line of the standard input: its name, and behind it named fields with a semicolon between. `words` are
+//! those of the command line, with a tilde between and a caret for a line feed; `file` is what the file `c.json` has;
+//! `input` is the standard input, in which a bar stands for a line feed; and `open`, `read`, `put`, `answer` and `print`
+//! are the numbers, counted from 1, of the opening, the read and so on that fails. What stands after it is its status, the accepted records (`+`, transaction, part, leaf, batch, bytes), the
 //! refused records (`-`), the answers (`=`), the printed lines (`>`), how many sources were kept as input, and the lines
 //! of `err`.
 #![tactic(auto)]
@@ -22,9 +22,9 @@ fn report(alloc: Global, line: &str) -> Result<String, AllocError> {
     match case.run(alloc) {
         Ok((status, world)) => {
             let after = told(alloc, &world)?;
-            format!(in alloc; "{}: {status:?}\n{after}", case.name)
+            format!(in alloc; "{}: {status:?}\n{after}", case.name())
         }
-        Err(_) => format!(in alloc; "{}: no memory\n", case.name),
+        Err(_) => format!(in alloc; "{}: no memory\n", case.name()),
     }
 }
 
