@@ -67,8 +67,8 @@ pub fn arrive(
     }
 }
 
-// Whether there is room for each hold of the part, beside those that are booked.
-fn has_room(ledger: &Ledger, entries: u32, slot: u32, part: u32) -> bool
+/// Whether there is room for each hold of the part, beside those that are booked.
+pub fn has_room(ledger: &Ledger, entries: u32, slot: u32, part: u32) -> bool
     requires part { IsPart ledger.now slot part }
     requires entries { ledger.now.entries ≡ entries }
     ensures { IsTrue result → Roomy ledger.now slot part }

@@ -2,13 +2,16 @@
 //!
 //! A line of the standard input is a case: `window` and a name, for a window of one transaction; or
 //! `random`, a name, the sizes of the window and the pool, how many calls are made, and the first of the numbers that
-//! choose them. Each call of a random case is made on both ledgers, and everything that can be asked is compared after it.
+//! choose them, for calls that are made on both ledgers and after each of which everything that can be asked is compared;
+//! or `serve`, a name, the size of the window, how many transactions are served in it, how many items each has, and whether
+//! their parts are settled from the last one on.
 #![tactic(auto)]
 
 mod both;
 mod numbers;
 mod plain;
 mod random;
+mod serve;
 mod shapes;
 mod window;
 
@@ -25,10 +28,10 @@ fn report(alloc: Global, line: &str) -> Result<String, AllocError> {
     let entries = number(fields.next().unwrap_or(""));
     let calls = number(fields.next().unwrap_or(""));
     let seed = number(fields.next().unwrap_or(""));
-    let told = if kind == "window" {
-        window::told(alloc)
-    } else {
-        random::told(alloc, window, entries, calls, seed)
+    let told = match kind {
+        "window" => window::told(alloc),
+        "serve" => serve::told(alloc, window, entries, calls, seed > 0),
+        _ => random::told(alloc, window, entries, calls, seed),
     };
     match told {
         Ok(told) => format!(in alloc; "{name}: {told}\n"),

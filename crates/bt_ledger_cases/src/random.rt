@@ -13,8 +13,8 @@ use bt_ports::NoMemory;
 use bt_ports::sequence::Sequence;
 use std::alloc::{AllocError, Global};
 
-// A hold that is released at three entries, one at 150 bytes, and one after 20 units of time.
-fn policies(alloc: Global) -> Result<HoldPolicies, NoMemory>
+/// A hold that is released at three entries, one at 150 bytes, and one after 20 units of time.
+pub fn policies(alloc: Global) -> Result<HoldPolicies, NoMemory>
     ensures { IfOk result (λ r. length r.list ≡ 3) }
 {
     let mut policies = Sequence::new(alloc);
@@ -32,7 +32,8 @@ fn policy(count: u32, byte_size: u64, period: u64) -> HoldPolicy {
     }
 }
 
-fn empty(alloc: Global, sizes: Sizes, holds: &HoldPolicies) -> Result<Ledger, NoMemory>
+/// A ledger without transactions.
+pub fn empty(alloc: Global, sizes: Sizes, holds: &HoldPolicies) -> Result<Ledger, NoMemory>
     requires { length holds.now.list ≡ 3 }
     ensures { IfOk result (λ l. Sized sizes.window sizes.entries l) }
 {
