@@ -1,7 +1,0 @@
-use Rattle.std.proofs.Common.{◌≡◌, drop}
-use Rattle.bt_findings.specs.Steps.{each}
-use Rattle.bt_ready.specs.Literals.{map_stmt_findings}
-use Rattle.bt_ready.proofs.found.body.Given as goal
-
-abbrev pub invariant-loop-stmt : goal.invariant-loop-stmt
-invariant-loop-stmt l = each map_stmt_findings l.out.list (drop l.stmt-index l.body) ≡ each map_stmt_findings l.initial.out.list l.body
