@@ -31,7 +31,7 @@ queries least most = record { least = least; most = most; first = slot.Query; ot
 unfoldable pub method_takes : MethodId → Signature
 method_takes m.Catch = one slot.Query
 method_takes m.Or = one slot.Query
-method_takes m.Apply = one slot.Text
+method_takes m.Apply = one slot.Map
 method_takes m.String = none
 method_takes m.Bytes = none
 method_takes m.Number = none
@@ -119,7 +119,7 @@ abbrev pub takes : Slot → Shape → Bool
 takes slot.Lambda x = true
 takes slot.Query lambda = false
 takes slot.Query x = true
-takes slot.Text (text w) = true
+takes slot.Map (text w) = true
 takes slot.Pattern (text w) = true
 takes slot.Scheme (text w) = is_scheme w.text
 takes slot.Format (text w) = is_format w.text

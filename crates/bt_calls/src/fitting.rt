@@ -31,7 +31,7 @@ fn takes_text(slot: Slot, text: &Word) -> bool
     ensures { result ≡ spec.takes slot (shapes.text text.now) }
 {
     match slot {
-        Slot::Query | Slot::Text | Slot::Pattern | Slot::Lambda => true,
+        Slot::Query | Slot::Map | Slot::Pattern | Slot::Lambda => true,
         Slot::Scheme => is_scheme(text.text.as_str()),
         Slot::Format => format_ok(text.text.as_str()),
         Slot::WholeFormat => names_each_once(text.text.as_str()),

@@ -10,8 +10,8 @@ use bt_value::{FunctionId, MethodId};
 pub enum Slot {
     /// A query.
     Query,
-    /// A literal text.
-    Text,
+    /// A literal text that names a map.
+    Map,
     /// A literal text that is a pattern.
     Pattern,
     /// A literal text that names a scheme: `base64`, `base64url` or `hex`.
@@ -84,7 +84,7 @@ pub fn method_takes(id: MethodId) -> Signature
     match id {
         MethodId::Catch => one(Slot::Query),
         MethodId::Or => one(Slot::Query),
-        MethodId::Apply => one(Slot::Text),
+        MethodId::Apply => one(Slot::Map),
         MethodId::String => none(),
         MethodId::Bytes => none(),
         MethodId::Number => none(),
