@@ -87,7 +87,12 @@ fn say_failure<W: World>(alloc: Global, n: u64, text: &Text, world: &mut W) -> R
 }
 
 // Prints or says the outcome of the n-th line, and gives whether its mapping failed.
-fn tell<W: World>(alloc: Global, n: u64, outcome: LineResult, world: &mut W) -> Result<bool, PassStop>
+fn tell<W: World>(
+    alloc: Global,
+    n: u64,
+    outcome: LineResult,
+    world: &mut W,
+) -> Result<bool, PassStop>
     ensures told { StillTold ⟦<W as World>⟧ world.old world.new }
     ensures steady { (W.file_faults world.new ≡ W.file_faults world.old) × (W.open_faults world.new ≡ W.open_faults world.old) }
     ensures counted { OnOk result (W.print_faults world.new ≡ W.print_faults world.old) }
