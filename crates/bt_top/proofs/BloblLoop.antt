@@ -6,8 +6,8 @@ use Rattle.bt_intake.specs.View.{LineView}
 use Rattle.bt_tree.specs.declared.tree.Mapping.{Mapping}
 use Rattle.bt_top.specs.blobl.Inside.{Going, GivenLines, NextLines, LinesHalted, Passed, SameLines, LineMapped, all_lines}
 use Rattle.bt_top.specs.blobl.Meaning.{outcome, printed_of, error_of, fails, blobl_text, blobl_errors, errors_from, some_fail}
-use Rattle.bt_top.specs.declared.blobl.course.Stop.{Stop}
-use Rattle.bt_top.specs.declared.blobl.course.Stop.TheVariants as stops
+use Rattle.bt_top.specs.declared.blobl.course.PassStop.{PassStop}
+use Rattle.bt_top.specs.declared.blobl.course.PassStop.TheVariants as stops
 
 -- one line more
 text-more : (m : Mapping) (done : List (List ℕ)) (line : List ℕ) → blobl_text m (done ++ line ∷ []) ≡ blobl_text m done ++ printed_of (outcome m line)
@@ -47,7 +47,7 @@ first-more (x ∷ all) (d ∷ done) line first at =
 pub joined : {A : Type 0} (a b c : List A) (x y : List A) → b ≡ a ++ (x ++ []) → c ≡ b ++ y → c ≡ a ++ (x ++ y)
 joined a b c x y p q = q ∙ ap (λ (z : List _). z ++ y) (p ∙ ap (λ (z : List _). a ++ z) (append-nil x)) ∙ append_assoc a x y
 
-gave-all : (stop : Stop) (done : List (List ℕ)) (line : List ℕ) (before given : ℕ) (all : List (List ℕ)) → before ≡ length done → NextLines stop line before given all → GivenLines stop done line given all
+gave-all : (stop : PassStop) (done : List (List ℕ)) (line : List ℕ) (before given : ℕ) (all : List (List ℕ)) → before ≡ length done → NextLines stop line before given all → GivenLines stop done line given all
 gave-all stops.Ended done line before given all is gave = gave ∙ is
 gave-all stops.ReadFault done line before given all is gave = gave ∙ is
 gave-all (stops.LongLine n) done line before given all is gave = gave ∙ is
@@ -95,7 +95,7 @@ module _ {S E I : Type 0} (gs : Source.Ghosts S) (m : Mapping) where
         }
 
     -- and no more
-    pub passed-halted : (stop : Stop) → LinesHalted gs m stop i j tells' prints' says' b c → SameLines gs i j → Passed gs m (record { stop = stop; failed = failed }) j tells' prints' says' a c
+    pub passed-halted : (stop : PassStop) → LinesHalted gs m stop i j tells' prints' says' b c → SameLines gs i j → Passed gs m (record { stop = stop; failed = failed }) j tells' prints' says' a c
     passed-halted stop halted lines =
         let was = going.whole in
         let done = going.done in

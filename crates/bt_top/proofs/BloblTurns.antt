@@ -9,13 +9,13 @@ use Rattle.bt_intake.specs.Lines.{batches}
 use Rattle.bt_intake.specs.Sources.{all_tell, told}
 use Rattle.bt_intake.specs.View.{LineView}
 use Rattle.bt_tree.specs.declared.tree.Mapping.{Mapping}
-use Rattle.bt_top.specs.blobl.Inside.{LineResult, TurnResult, SameLines, IsBreak, AnswerIs, NextLines, all_lines}
+use Rattle.bt_top.specs.blobl.Inside.{LineShown, TurnResult, SameLines, IsBreak, AnswerIs, NextLines, all_lines}
 use Rattle.bt_top.specs.blobl.Meaning.{line_bytes, outcome}
-use Rattle.bt_top.specs.declared.blobl.course.Stop.{Stop}
-use Rattle.bt_top.specs.declared.blobl.course.Stop.TheVariants as stops
+use Rattle.bt_top.specs.declared.blobl.course.PassStop.{PassStop}
+use Rattle.bt_top.specs.declared.blobl.course.PassStop.TheVariants as stops
 
 -- an outcome that wasn't told whole is no answer of the intake
-answer-free : {S : Type 0} (stop : Stop) (j : LineView S) → IsBreak stop → AnswerIs stop j.stopped
+answer-free : {S : Type 0} (stop : PassStop) (j : LineView S) → IsBreak stop → AnswerIs stop j.stopped
 answer-free stops.Ended j b = absurd b
 answer-free stops.ReadFault j b = absurd b
 answer-free (stops.LongLine n) j b = absurd b
@@ -23,7 +23,7 @@ answer-free stops.Bound j b = absurd b
 answer-free stops.PrintFailed j b = tt
 answer-free stops.NoMemory j b = tt
 
-gave-next : (stop : Stop) (line : List ℕ) (before given : ℕ) (all : List (List ℕ)) → IsBreak stop → slice_get all before ≡ Some line → NextLines stop line before given all
+gave-next : (stop : PassStop) (line : List ℕ) (before given : ℕ) (all : List (List ℕ)) → IsBreak stop → slice_get all before ≡ Some line → NextLines stop line before given all
 gave-next stops.Ended line before given all b at = absurd b
 gave-next stops.ReadFault line before given all b at = absurd b
 gave-next (stops.LongLine n) line before given all b at = absurd b
@@ -58,6 +58,6 @@ module _ {S : Type 0} (gs : Source.Ghosts S) (i j : LineView S)
           ∙ slice_get-map line_bytes (batches i.bound (told gs i.sources.list)) i.given ∙ ap (option_map line_bytes) (gives t).1
 
       -- a line was taken, and this became of it
-      pub turns-taken : (r : Result Bool Stop) → LineResult r n (outcome m (line_bytes items.list)) tells prints says a b → TurnResult gs m n r i j tells prints says a b
+      pub turns-taken : (r : Result Bool PassStop) → LineShown r n (outcome m (line_bytes items.list)) tells prints says a b → TurnResult gs m n r i j tells prints says a b
       turns-taken (Ok fault) e = (record { line = line_bytes items.list; fault_is = e.0; tells_it = e.1; given = λ t. ((gives t).0, here t) }, same-lines)
       turns-taken (Err stop) e = (record { line = line_bytes items.list; breaks = e.1; answer = answer-free stop j e.0; gave = λ t. gave-next stop _ _ _ _ e.0 (here t) }, same-lines)

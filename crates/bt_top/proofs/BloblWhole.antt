@@ -23,8 +23,8 @@ use Rattle.bt_top.specs.Calls.{source_opening}
 use Rattle.bt_top.specs.declared.blobl.course.BloblCourse.{BloblCourse}
 use Rattle.bt_top.specs.declared.blobl.course.BloblCourse.TheVariants as course
 use Rattle.bt_top.specs.declared.blobl.course.Pass.{Pass}
-use Rattle.bt_top.specs.declared.blobl.course.Stop.{Stop}
-use Rattle.bt_top.specs.declared.blobl.course.Stop.TheVariants as stops
+use Rattle.bt_top.specs.declared.blobl.course.PassStop.{PassStop}
+use Rattle.bt_top.specs.declared.blobl.course.PassStop.TheVariants as stops
 
 -- what became of one source
 one-kept : {S : Type 0} (gs : Source.Ghosts S) (ns ms : List (Named S)) (s : S) → ns ≡ record { path = None; source = s } ∷ [] → SourcesKept gs ns ms
@@ -41,7 +41,7 @@ and-true true = refl
 and-true false = refl
 
 -- why no more lines were mapped
-stop-holds : (s : Stop) (answer : Option Next) (done : List (List ℕ)) (line : List ℕ) (given taken : ℕ) (bytes : List ℕ)
+stop-holds : (s : PassStop) (answer : Option Next) (done : List (List ℕ)) (line : List ℕ) (given taken : ℕ) (bytes : List ℕ)
     → AnswerIs s answer → AnswerSays answer INPUT_BOUND taken given true (input_of bytes) → GivenLines s done line given (lines_of bytes)
     → done ≡ take (length done) (lines_of bytes) → StopSays s done line taken bytes
 stop-holds stops.Ended answer done line given taken bytes is says gave first =
@@ -61,7 +61,7 @@ stop-holds stops.PrintFailed answer done line given taken bytes is says gave fir
 stop-holds stops.NoMemory answer done line given taken bytes is says gave first = tt
 
 -- the source's faults, by those of the intake, which had none at first
-stop-faults : (s : Stop) (f f' : ℕ) → f ≡ 0 → PassFaults s f f' → StopFaults s f'
+stop-faults : (s : PassStop) (f f' : ℕ) → f ≡ 0 → PassFaults s f f' → StopFaults s f'
 stop-faults stops.Ended f f' z p = p ∙ z
 stop-faults stops.ReadFault f f' z p = omega (arith, p)
 stop-faults (stops.LongLine n) f f' z p = p ∙ z

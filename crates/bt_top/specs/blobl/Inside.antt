@@ -16,10 +16,10 @@ use Rattle.bt_ports.specs.declared.parts.Next.TheVariants as next
 use Rattle.bt_intake.specs.Lines.{batches, stop}
 use Rattle.bt_intake.specs.Sources.{all_tell, told}
 use Rattle.bt_intake.specs.View.{LineView}
-use Rattle.bt_top.specs.declared.blobl.course.Stop.{Stop}
-use Rattle.bt_top.specs.declared.blobl.course.Stop.TheVariants as stops
+use Rattle.bt_top.specs.declared.blobl.course.PassStop.{PassStop}
+use Rattle.bt_top.specs.declared.blobl.course.PassStop.TheVariants as stops
 use Rattle.bt_top.specs.declared.blobl.course.Pass.{Pass}
-use Rattle.bt_top.specs.declared.blobl.course.Outcome.{Outcome}
+use Rattle.bt_top.specs.declared.blobl.course.LineResult.{LineResult}
 use Rattle.bt_ports.specs.Faults.{Rose}
 use Rattle.bt_ports.specs.declared.parts.Asked.{Asked}
 use Rattle.bt_top.specs.declared.limits.TheConstants.{INPUT_BOUND}
@@ -80,7 +80,7 @@ pub record Going {S E I : Type 0} (gs : Source.Ghosts S) (m : Mapping) (n : ℕ)
   pub given : IsTrue (all_tell gs i.sources.list) → i.given ≡ n
 
 -- how many lines the intake gave, and which one was at hand when its outcome couldn't be printed
-abbrev pub GivenLines : Stop → List (List ℕ) → List ℕ → ℕ → List (List ℕ) → Type 0
+abbrev pub GivenLines : PassStop → List (List ℕ) → List ℕ → ℕ → List (List ℕ) → Type 0
 GivenLines stops.Ended done line given all = given ≡ length done
 GivenLines stops.ReadFault done line given all = given ≡ length done
 GivenLines (stops.LongLine n) done line given all = given ≡ length done
@@ -89,7 +89,7 @@ GivenLines stops.PrintFailed done line given all = slice_get all (length done) �
 GivenLines stops.NoMemory done line given all = Unit {0}
 
 -- the same of one turn, of which the intake had given so many before
-abbrev pub NextLines : Stop → List ℕ → ℕ → ℕ → List (List ℕ) → Type 0
+abbrev pub NextLines : PassStop → List ℕ → ℕ → ℕ → List (List ℕ) → Type 0
 NextLines stops.Ended line before given all = given ≡ before
 NextLines stops.ReadFault line before given all = given ≡ before
 NextLines (stops.LongLine n) line before given all = given ≡ before
@@ -102,7 +102,7 @@ abbrev pub SameLines : {S : Type 0} → Source.Ghosts S → LineView S → LineV
 SameLines gs i j = IsTrue (all_tell gs j.sources.list) → IsTrue (all_tell gs i.sources.list) × (all_lines gs j ≡ all_lines gs i)
 
 -- the intake's own answer, where it is why no more lines are mapped
-abbrev pub AnswerIs : Stop → Option Next → Type 0
+abbrev pub AnswerIs : PassStop → Option Next → Type 0
 AnswerIs stops.Ended stopped = stopped ≡ Some next.End
 AnswerIs stops.ReadFault stopped = stopped ≡ Some next.Failed
 AnswerIs (stops.LongLine n) stopped = stopped ≡ Some (next.LongLine n)
@@ -121,19 +121,19 @@ pub record Passed {S E I : Type 0} (gs : Source.Ghosts S) (m : Mapping) (pass : 
   pub answer : AnswerIs pass.stop i.stopped
 
 -- the outcome of the n-th line was printed or said
-pub record LineTold {E I : Type 0} (n : ℕ) (o : Outcome) (tells prints says : Bool) (a b : Tale E I) : Type 0 where
+pub record LineTold {E I : Type 0} (n : ℕ) (o : LineResult) (tells prints says : Bool) (a b : Tale E I) : Type 0 where
   pub printed : IsTrue tells → IsTrue prints → b.printed ≡ a.printed ++ printed_of o
   pub said : IsTrue tells → IsTrue says → b.lines ≡ a.lines ++ error_of n o
 
 -- it wasn't
-pub record LineCut {E I : Type 0} (stop : Stop) (o : Outcome) (tells prints says : Bool) (a b : Tale E I) : Type 0 where
+pub record LineCut {E I : Type 0} (stop : PassStop) (o : LineResult) (tells prints says : Bool) (a b : Tale E I) : Type 0 where
   pub prefix : List ℕ
   pub prefix_is : PrefixIs stop o prefix
   pub printed : IsTrue tells → IsTrue prints → b.printed ≡ a.printed ++ prefix
   pub said : IsTrue tells → IsTrue says → b.lines ≡ a.lines
 
 -- an outcome isn't told whole only where its print failed or memory was wanting
-abbrev pub IsBreak : Stop → Type 0
+abbrev pub IsBreak : PassStop → Type 0
 IsBreak stops.Ended = ⊥
 IsBreak stops.ReadFault = ⊥
 IsBreak (stops.LongLine n) = ⊥
@@ -142,9 +142,9 @@ IsBreak stops.PrintFailed = Unit {0}
 IsBreak stops.NoMemory = Unit {0}
 
 -- what became of the outcome of the n-th line: it was told, and whether it is a failure, or it wasn't told whole
-abbrev pub LineResult : {E I : Type 0} → Result Bool Stop → ℕ → Outcome → (tells prints says : Bool) → Tale E I → Tale E I → Type 0
-LineResult (Ok failed) n o tells prints says a b = (failed ≡ fails o) × LineTold n o tells prints says a b
-LineResult (Err stop) n o tells prints says a b = IsBreak stop × LineCut stop o tells prints says a b
+abbrev pub LineShown : {E I : Type 0} → Result Bool PassStop → ℕ → LineResult → (tells prints says : Bool) → Tale E I → Tale E I → Type 0
+LineShown (Ok failed) n o tells prints says a b = (failed ≡ fails o) × LineTold n o tells prints says a b
+LineShown (Err stop) n o tells prints says a b = IsBreak stop × LineCut stop o tells prints says a b
 
 -- The n-th line was taken, and its outcome told: the lines before it are as many as the intake had given
 pub record LineMapped {S E I : Type 0} (gs : Source.Ghosts S) (m : Mapping) (n : ℕ) (fault : Bool) (i j : LineView S) (tells prints says : Bool) (a b : Tale E I) : Type 0 where
@@ -154,14 +154,14 @@ pub record LineMapped {S E I : Type 0} (gs : Source.Ghosts S) (m : Mapping) (n :
   pub given : IsTrue (all_tell gs j.sources.list) → (j.given ≡ i.given + 1) × (slice_get (all_lines gs j) i.given ≡ Some line)
 
 -- No line more was told: the intake gave none, or memory was wanting, or its outcome wasn't printed whole
-pub record LinesHalted {S E I : Type 0} (gs : Source.Ghosts S) (m : Mapping) (stop : Stop) (i j : LineView S) (tells prints says : Bool) (a b : Tale E I) : Type 0 where
+pub record LinesHalted {S E I : Type 0} (gs : Source.Ghosts S) (m : Mapping) (stop : PassStop) (i j : LineView S) (tells prints says : Bool) (a b : Tale E I) : Type 0 where
   pub line : List ℕ
   pub breaks : LineCut stop (outcome m line) tells prints says a b
   pub answer : AnswerIs stop j.stopped
   pub gave : IsTrue (all_tell gs j.sources.list) → NextLines stop line i.given j.given (all_lines gs j)
 
 -- how a turn of the lines went
-abbrev pub TurnResult : {S E I : Type 0} → Source.Ghosts S → Mapping → ℕ → Result Bool Stop → LineView S → LineView S → (tells prints says : Bool) → Tale E I → Tale E I → Type 0
+abbrev pub TurnResult : {S E I : Type 0} → Source.Ghosts S → Mapping → ℕ → Result Bool PassStop → LineView S → LineView S → (tells prints says : Bool) → Tale E I → Tale E I → Type 0
 TurnResult gs m n (Ok fault) i j tells prints says a b = LineMapped gs m n fault i j tells prints says a b × SameLines gs i j
 TurnResult gs m n (Err stop) i j tells prints says a b = LinesHalted gs m stop i j tells prints says a b × SameLines gs i j
 
@@ -199,7 +199,7 @@ pub record OpensNone {E I : Type 0} (course : BloblCourse) (a b : Tale E I) : Ty
 
 -- what the pass over the lines of an intake did to its count of faults: it stands still unless a read failed or memory was
 -- wanting
-abbrev pub PassFaults : Stop → (before after : ℕ) → Type 0
+abbrev pub PassFaults : PassStop → (before after : ℕ) → Type 0
 PassFaults stops.Ended before after = after ≡ before
 PassFaults stops.ReadFault before after = Rose before after
 PassFaults (stops.LongLine n) before after = after ≡ before
@@ -208,7 +208,7 @@ PassFaults stops.PrintFailed before after = after ≡ before
 PassFaults stops.NoMemory before after = Unit {0}
 
 -- the same of one line, whose mapping failed or not
-abbrev pub LineFaults : Result Bool Stop → (before after : ℕ) → Type 0
+abbrev pub LineFaults : Result Bool PassStop → (before after : ℕ) → Type 0
 LineFaults (Ok failed) before after = after ≡ before
 LineFaults (Err stop) before after = PassFaults stop before after
 

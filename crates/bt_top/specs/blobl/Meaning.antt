@@ -9,8 +9,8 @@ use Rattle.bt_eval.specs.declared.run.Mapped.TheVariants as mapping
 use Rattle.bt_value.specs.declared.message.Msg.{Msg}
 use Rattle.bt_eval.specs.declared.run.Spot.{Spot}
 use Rattle.bt_top.specs.Input.{transactions}
-use Rattle.bt_top.specs.declared.blobl.course.Outcome.{Outcome}
-use Rattle.bt_top.specs.declared.blobl.course.Outcome.TheVariants as outcomes
+use Rattle.bt_top.specs.declared.blobl.course.LineResult.{LineResult}
+use Rattle.bt_top.specs.declared.blobl.course.LineResult.TheVariants as outcomes
 
 -- the bytes of a line, which is a batch of one item
 abbrev pub line_bytes : List Item → List ℕ
@@ -30,33 +30,33 @@ abbrev pub alone : Spot
 alone = record { index = 0; size = 1; moment = 0 }
 
 -- what a mapping makes of a message, by what is printed of it: its content and a line break
-abbrev pub shown : Mapped → Outcome
+abbrev pub shown : Mapped → LineResult
 shown (mapping.Changed m) = outcomes.Prints (m.content ++ 10 ∷ [])
 shown mapping.Dropped = outcomes.Drops
 shown (mapping.Flagged text) = outcomes.Fails text
 
 -- a line that gives no value fails with the text that `this` has then, whatever the mapping is
-abbrev pub outcome_by : Option (List ℕ) → Mapping → List ℕ → Outcome
+abbrev pub outcome_by : Option (List ℕ) → Mapping → List ℕ → LineResult
 outcome_by (Some text) m line = outcomes.Fails text
 outcome_by None m line = shown (mapped m (message line) None alone)
 
 -- what becomes of a line
-abbrev pub outcome : Mapping → List ℕ → Outcome
+abbrev pub outcome : Mapping → List ℕ → LineResult
 outcome m line = outcome_by (this_fault line) m line
 
 -- what is printed of it
-abbrev pub printed_of : Outcome → List ℕ
+abbrev pub printed_of : LineResult → List ℕ
 printed_of (outcomes.Prints bytes) = bytes
 printed_of outcomes.Drops = []
 printed_of (outcomes.Fails text) = []
 
 -- the line of `err` of the n-th line, where its mapping failed
-abbrev pub error_of : ℕ → Outcome → List (List ℕ)
+abbrev pub error_of : ℕ → LineResult → List (List ℕ)
 error_of n (outcomes.Prints bytes) = []
 error_of n outcomes.Drops = []
 error_of n (outcomes.Fails text) = (codes "line " ++ decimal n ++ codes ": " ++ text) ∷ []
 
-abbrev pub fails : Outcome → Bool
+abbrev pub fails : LineResult → Bool
 fails (outcomes.Prints bytes) = false
 fails outcomes.Drops = false
 fails (outcomes.Fails text) = true

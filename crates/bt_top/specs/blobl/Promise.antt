@@ -4,10 +4,10 @@ use Rattle.bt_ports.specs.World.{Tale, once_more}
 use Rattle.bt_ports.specs.declared.outside.Source as Source
 use Rattle.bt_intake.specs.Lines.{batches, stop}
 use Rattle.bt_tree.specs.declared.tree.Mapping.{Mapping}
-use Rattle.bt_top.specs.declared.blobl.course.Stop.{Stop}
-use Rattle.bt_top.specs.declared.blobl.course.Stop.TheVariants as stops
+use Rattle.bt_top.specs.declared.blobl.course.PassStop.{PassStop}
+use Rattle.bt_top.specs.declared.blobl.course.PassStop.TheVariants as stops
 use Rattle.bt_top.specs.declared.blobl.course.Pass.{Pass}
-use Rattle.bt_top.specs.declared.blobl.course.Outcome.{Outcome}
+use Rattle.bt_top.specs.declared.blobl.course.LineResult.{LineResult}
 use Rattle.bt_ports.specs.Contents.{Contents}
 use Rattle.bt_ports.specs.Faults.{Rose}
 use Rattle.bt_ports.specs.declared.parts.Asked.{Asked}
@@ -28,7 +28,7 @@ use Rattle.bt_top.specs.blobl.Meaning.{lines_of, outcome, printed_of, blobl_text
 use Rattle.bt_top.specs.blobl.Text.{TextSays, fault_line}
 
 -- what is left of an outcome that wasn't printed whole: a prefix of it, where the print failed
-abbrev pub PrefixIs : Stop → Outcome → List ℕ → Type 0
+abbrev pub PrefixIs : PassStop → LineResult → List ℕ → Type 0
 PrefixIs stops.Ended o prefix = prefix ≡ []
 PrefixIs stops.ReadFault o prefix = prefix ≡ []
 PrefixIs (stops.LongLine n) o prefix = prefix ≡ []
@@ -37,7 +37,7 @@ PrefixIs stops.PrintFailed o prefix = (k : ℕ) × (prefix ≡ take k (printed_o
 PrefixIs stops.NoMemory o prefix = prefix ≡ []
 
 -- the status where lines were mapped: where the input was read to its end, whether one failed decides
-abbrev pub pass_status : Stop → Bool → Status
+abbrev pub pass_status : PassStop → Bool → Status
 pass_status stops.Ended fault = (if fault then status.Refused else status.Done)
 pass_status stops.ReadFault fault = status.Input
 pass_status (stops.LongLine n) fault = status.Bound
@@ -53,7 +53,7 @@ blobl_status course.NoMemory = status.Memory
 blobl_status (course.Mapped pass) = pass_status pass.stop pass.failed
 
 -- the line of `err` on why no more lines are mapped, where it isn't the input's end
-abbrev pub stop_lines : Stop → List (List ℕ)
+abbrev pub stop_lines : PassStop → List (List ℕ)
 stop_lines stops.Ended = []
 stop_lines stops.ReadFault = codes "source: read fault" ∷ []
 stop_lines (stops.LongLine n) = long_line n ∷ []
@@ -87,7 +87,7 @@ BloblCounts (course.Mapped pass) opens opens' prints prints' = pass.stop ≡ sto
 
 -- the faults of the source where no more lines were mapped: it counted one where a read failed, and none where that is the
 -- input's end, a long line, the bound or a failed print
-abbrev pub StopFaults : Stop → (faults : ℕ) → Type 0
+abbrev pub StopFaults : PassStop → (faults : ℕ) → Type 0
 StopFaults stops.Ended faults = faults ≡ 0
 StopFaults stops.ReadFault faults = 1 ≤ faults
 StopFaults (stops.LongLine n) faults = faults ≡ 0
@@ -99,7 +99,7 @@ StopFaults stops.NoMemory faults = Unit {0}
 -- at its end all lines were mapped and the input stops there, and so at its bound;
 -- at a read fault every line whose line feed was taken is among the mapped ones;
 -- at a failed print the next line is the one whose outcome wasn't printed whole
-abbrev pub StopSays : Stop → List (List ℕ) → List ℕ → (taken : ℕ) → List ℕ → Type 0
+abbrev pub StopSays : PassStop → List (List ℕ) → List ℕ → (taken : ℕ) → List ℕ → Type 0
 StopSays stops.Ended done line taken bytes = (done ≡ lines_of bytes) × (stop INPUT_BOUND (input_of bytes) ≡ input_end)
 StopSays stops.ReadFault done line taken bytes = length (batches taken (input_of bytes)) ≤ length done
 StopSays (stops.LongLine n) done line taken bytes = ⊥

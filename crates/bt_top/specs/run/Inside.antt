@@ -86,7 +86,8 @@ pub record Reached {W S K A C : Type 0} (g : World.Ghosts W S K A C) (n : ℕ) (
   pub counted : (g.file_faults a ≤ g.file_faults b) × (g.open_faults a ≤ g.open_faults b) × (g.print_faults b ≡ g.print_faults a)
   pub tells : IsTrue (g.tells b) → Asks (take n calls) left (g.tale a) (g.tale b)
 
--- a run of these calls halted: its part of the list of calls, and what else changed
+-- a run of these calls halted: its part of the list of calls. Of all else only the lines of `err` changed, and what is left
+-- of the standard input and which clock is taken next
 pub record Halted {E I : Type 0} (calls : List Asked) (halt : Halt) (a b : Tale E I) : Type 0 where
   pub part : List Asked
   pub made : b.calls ≡ a.calls ++ part

@@ -122,7 +122,7 @@ pub record Tells {W S K A C I : Type 0} (o : Outside W S K A C) (config : List �
   pub calls : b.calls ≡ a.calls ++ part
   pub openings : IsPart run (plan config answers) part
   pub keeps : KeepsBy o run a b
-  -- nothing else changed, but the lines of `err`
+  -- of all else only the lines of `err` changed, and what is left of the standard input and which clock is taken next
   pub only : b ≡ record a { calls = b.calls; lines = b.lines; stdin = b.stdin; clock = b.clock; clocks = b.clocks; keeps = b.keeps; kept = b.kept }
 
 -- how a run ended, from a to b: what kept it from beginning, or its report

@@ -1,7 +1,6 @@
 //! The command `blobl`.
 ghost use Rattle.std.specs.Prelude.{◌≡◌, ℕ, ◌+◌, ◌≤◌, List, [], ◌∷◌, ◌++◌, length, None, IfOk, IfErr, IfSome, OnOk, IsTrue, true, false};
 ghost use Rattle.bt_intake.specs.Answers.{Standing};
-ghost use Rattle.bt_ports.specs.World.{StillTells};
 ghost use Rattle.bt_syntax.specs.Built.{BuiltReading, IsBuilt};
 ghost use Rattle.bt_tree.specs.declared.tree.Mapping.{Mapping};
 ghost use Rattle.bt_top.specs.blobl.Inside.{IsFreshInput, IsNoOpening, IsReading, IsUnread, OpensInput, OpensNone, IsWithin, TokensSay, lexer_course, parser_course};
@@ -9,9 +8,9 @@ ghost use Rattle.bt_top.specs.blobl.Promise.{BloblCounts, BloblPromise, BloblTel
 ghost use Rattle.bt_top.specs.blobl.Text.{TextSays};
 ghost use Rattle.bt_lexer.specs.Lines.{HasTokens};
 ghost use Rattle.bt_top.specs.Calls.{source_opening};
-ghost use Rattle.bt_top.specs.Outside.{SaysOnly, over};
+ghost use Rattle.bt_top.specs.Outside.{SaysOnly, StillTold, over};
 
-use super::course::{BloblCourse, MappingFault, Pass, Stop, faulty};
+use super::course::{BloblCourse, MappingFault, Pass, PassStop, faulty};
 use super::lines::map_lines;
 use crate::limits::INPUT_BOUND;
 use crate::lines::{bound_line, fault_line, long_line};
@@ -85,7 +84,7 @@ fn read_mapping(alloc: Global, text: &str) -> Result<Mapping, BloblCourse>
 
 // Opens the standard input.
 fn open_stdin<W: World>(world: &mut W) -> Result<W::S, BloblCourse>
-    ensures told { StillTells (W.tells world.old) (W.tells world.new) × StillTells (W.tells_printed world.old) (W.tells_printed world.new) × StillTells (W.tells_lines world.old) (W.tells_lines world.new) }
+    ensures told { StillTold ⟦<W as World>⟧ world.old world.new }
     ensures steady { (W.file_faults world.new ≡ W.file_faults world.old) × (W.print_faults world.new ≡ W.print_faults world.old) }
     ensures counted { W.open_faults world.old ≤ W.open_faults world.new }
     ensures course { IfErr result IsNoOpening }
@@ -115,7 +114,7 @@ fn lines_of<S: Source>(alloc: Global, source: S) -> Result<LineIntake<S>, NoMemo
 
 // Opens the standard input as an intake of lines.
 fn open_lines<W: World>(alloc: Global, world: &mut W) -> Result<LineIntake<W::S>, BloblCourse>
-    ensures told { StillTells (W.tells world.old) (W.tells world.new) × StillTells (W.tells_printed world.old) (W.tells_printed world.new) × StillTells (W.tells_lines world.old) (W.tells_lines world.new) }
+    ensures told { StillTold ⟦<W as World>⟧ world.old world.new }
     ensures steady { (W.file_faults world.new ≡ W.file_faults world.old) × (W.print_faults world.new ≡ W.print_faults world.old) }
     ensures counted { W.open_faults world.old ≤ W.open_faults world.new }
     ensures course { IfErr result IsNoOpening }
@@ -134,7 +133,7 @@ fn open_lines<W: World>(alloc: Global, world: &mut W) -> Result<LineIntake<W::S>
 // Maps the lines of the standard input, and says how far it came.
 fn map_stdin<W: World>(alloc: Global, ready: &Ready, world: &mut W) -> BloblCourse
     requires { IsBuilt ready.now.mapping }
-    ensures told { StillTells (W.tells world.old) (W.tells world.new) × StillTells (W.tells_printed world.old) (W.tells_printed world.new) × StillTells (W.tells_lines world.old) (W.tells_lines world.new) }
+    ensures told { StillTold ⟦<W as World>⟧ world.old world.new }
     ensures reads { IsReading result }
     ensures files { W.file_faults world.new ≡ W.file_faults world.old }
     ensures count { BloblCounts result (W.open_faults world.old) (W.open_faults world.new) (W.print_faults world.old) (W.print_faults world.new) }
@@ -151,7 +150,7 @@ fn map_stdin<W: World>(alloc: Global, ready: &Ready, world: &mut W) -> BloblCour
 
 // Maps the lines of the standard input by the mapping of the text, and says how far it came.
 fn blobl_course<W: World>(alloc: Global, text: &str, world: &mut W) -> BloblCourse
-    ensures told { StillTells (W.tells world.old) (W.tells world.new) × StillTells (W.tells_printed world.old) (W.tells_printed world.new) × StillTells (W.tells_lines world.old) (W.tells_lines world.new) }
+    ensures told { StillTold ⟦<W as World>⟧ world.old world.new }
     ensures says { TextSays result text.now }
     ensures within { IsWithin result text.now }
     ensures files { W.file_faults world.new ≡ W.file_faults world.old }
@@ -165,16 +164,16 @@ fn blobl_course<W: World>(alloc: Global, text: &str, world: &mut W) -> BloblCour
 }
 
 // Says why no more lines are mapped, where it isn't the input's end.
-fn say_stop<W: World>(stop: Stop, world: &mut W)
+fn say_stop<W: World>(stop: PassStop, world: &mut W)
     ensures { SaysOnly ⟦<W as World>⟧ (stop_lines stop) world.old world.new }
 {
     match stop {
-        Stop::Ended => {}
-        Stop::ReadFault => world.err(b"source: read fault"),
-        Stop::LongLine(n) => world.err(long_line(n).as_str().as_bytes()),
-        Stop::Bound => world.err(bound_line(INPUT_BOUND).as_str().as_bytes()),
-        Stop::PrintFailed => world.err(b"out: write fault"),
-        Stop::NoMemory => world.err(b"no memory"),
+        PassStop::Ended => {}
+        PassStop::ReadFault => world.err(b"source: read fault"),
+        PassStop::LongLine(n) => world.err(long_line(n).as_str().as_bytes()),
+        PassStop::Bound => world.err(bound_line(INPUT_BOUND).as_str().as_bytes()),
+        PassStop::PrintFailed => world.err(b"out: write fault"),
+        PassStop::NoMemory => world.err(b"no memory"),
     }
 }
 
@@ -199,12 +198,12 @@ fn pass_status(pass: &Pass) -> Status
     ensures { result ≡ pass_status pass.now.stop pass.now.failed }
 {
     match pass.stop {
-        Stop::Ended if pass.failed => Status::Refused,
-        Stop::Ended => Status::Done,
-        Stop::ReadFault => Status::Input,
-        Stop::LongLine(_) | Stop::Bound => Status::Bound,
-        Stop::PrintFailed => Status::Output,
-        Stop::NoMemory => Status::Memory,
+        PassStop::Ended if pass.failed => Status::Refused,
+        PassStop::Ended => Status::Done,
+        PassStop::ReadFault => Status::Input,
+        PassStop::LongLine(_) | PassStop::Bound => Status::Bound,
+        PassStop::PrintFailed => Status::Output,
+        PassStop::NoMemory => Status::Memory,
     }
 }
 

@@ -7,7 +7,7 @@ use bt_ports::text::Text;
 
 /// Why no more lines are mapped.
 #[derive(Clone, Copy, Debug, PartialEq, Eq)]
-pub enum Stop {
+pub enum PassStop {
     /// The input was read to its end.
     Ended,
     /// The source failed.
@@ -26,7 +26,7 @@ pub enum Stop {
 #[derive(Clone, Copy, Debug, PartialEq, Eq)]
 pub struct Pass {
     /// Why there are no more.
-    pub stop: Stop,
+    pub stop: PassStop,
     /// Whether the mapping of a line failed.
     pub failed: bool,
 }
@@ -75,7 +75,7 @@ pub(crate) fn faulty(fault: MappingFault, at: usize) -> BloblCourse
 
 /// What becomes of a line.
 #[derive(Drop)]
-pub enum Outcome {
+pub enum LineResult {
     /// These bytes are printed, a line break among them.
     Prints(Blob),
     /// Nothing is printed.

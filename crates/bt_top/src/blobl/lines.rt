@@ -3,12 +3,12 @@ ghost use Rattle.std.specs.Prelude.{◌≡◌, ◌≤◌, ◌<◌, ◌+◌, ◌-
 ghost use Rattle.bt_intake.specs.Answers.{Standing};
 ghost use Rattle.bt_intake.specs.Sources.{fault_count, SourcesKept};
 ghost use Rattle.bt_ports.specs.Faults.{Rose};
-ghost use Rattle.bt_ports.specs.World.{StillTells};
 ghost use Rattle.bt_syntax.specs.Built.{IsBuilt};
+ghost use Rattle.bt_top.specs.Outside.{StillTold};
 ghost use Rattle.bt_top.specs.blobl.Inside.{LineFaults, PassFaults, Going, Passed, TurnResult, PrintsOnly};
-ghost use Rattle.bt_top.specs.declared.blobl.course.Stop.{Stop};
+ghost use Rattle.bt_top.specs.declared.blobl.course.PassStop.{PassStop};
 
-use super::course::{Pass, Stop};
+use super::course::{Pass, PassStop};
 use super::outcome::map_line;
 use bt_intake::intake::LineIntake;
 use bt_ports::outside::{Intake, Source};
@@ -24,13 +24,13 @@ fn map_next<W: World>(
     n: u64,
     intake: &mut LineIntake<W::S>,
     world: &mut W,
-) -> Result<bool, Stop>
+) -> Result<bool, PassStop>
     requires goes { intake.old.stopped ≡ None }
     requires built { IsBuilt ready.now.mapping }
-    ensures told { StillTells (W.tells world.old) (W.tells world.new) × StillTells (W.tells_printed world.old) (W.tells_printed world.new) × StillTells (W.tells_lines world.old) (W.tells_lines world.new) }
+    ensures told { StillTold ⟦<W as World>⟧ world.old world.new }
     ensures steady { (W.file_faults world.new ≡ W.file_faults world.old) × (W.open_faults world.new ≡ W.open_faults world.old) }
     ensures counted { OnOk result (W.print_faults world.new ≡ W.print_faults world.old) }
-    ensures failed { IfErr result (λ stop. stop ≡ Stop.PrintFailed → Rose (W.print_faults world.old) (W.print_faults world.new)) }
+    ensures failed { IfErr result (λ stop. stop ≡ PassStop.PrintFailed → Rose (W.print_faults world.old) (W.print_faults world.new)) }
     ensures only { IsTrue (W.tells world.new) → PrintsOnly (W.tale world.old) (W.tale world.new) }
     ensures kept { SourcesKept ⟦<W::S as Source>⟧ intake.old.sources.list intake.new.sources.list }
     ensures bound { intake.new.bound ≡ intake.old.bound }
@@ -42,11 +42,11 @@ fn map_next<W: World>(
 {
     match intake.next() {
         Next::Batch(items) => map_line(alloc, ready, n, items, world),
-        Next::End => Err(Stop::Ended),
-        Next::Failed => Err(Stop::ReadFault),
-        Next::LongLine(line) => Err(Stop::LongLine(line)),
-        Next::Bound => Err(Stop::Bound),
-        Next::NoMemory => Err(Stop::NoMemory),
+        Next::End => Err(PassStop::Ended),
+        Next::Failed => Err(PassStop::ReadFault),
+        Next::LongLine(line) => Err(PassStop::LongLine(line)),
+        Next::Bound => Err(PassStop::Bound),
+        Next::NoMemory => Err(PassStop::NoMemory),
     }
 }
 
@@ -60,9 +60,9 @@ pub(crate) fn map_lines<W: World>(
     requires fresh { (intake.old.stopped ≡ None) × (intake.old.given ≡ 0) }
     requires bound { intake.old.bound ≤ 2 ^ 48 }
     requires built { IsBuilt ready.now.mapping }
-    ensures told { StillTells (W.tells world.old) (W.tells world.new) × StillTells (W.tells_printed world.old) (W.tells_printed world.new) × StillTells (W.tells_lines world.old) (W.tells_lines world.new) }
+    ensures told { StillTold ⟦<W as World>⟧ world.old world.new }
     ensures steady { (W.file_faults world.new ≡ W.file_faults world.old) × (W.open_faults world.new ≡ W.open_faults world.old) }
-    ensures failed { result.stop ≡ Stop.PrintFailed → Rose (W.print_faults world.old) (W.print_faults world.new) }
+    ensures failed { result.stop ≡ PassStop.PrintFailed → Rose (W.print_faults world.old) (W.print_faults world.new) }
     ensures only { IsTrue (W.tells world.new) → PrintsOnly (W.tale world.old) (W.tale world.new) }
     ensures kept { SourcesKept ⟦<W::S as Source>⟧ intake.old.sources.list intake.new.sources.list }
     ensures bound { intake.new.bound ≡ intake.old.bound }

@@ -2,12 +2,12 @@
 ghost use Rattle.std.specs.Prelude.{◌≡◌, ◌≤◌, ◌++◌, ◌∷◌, [], IfOk, IfErr, OnOk, IsTrue, codes, decimal, length};
 ghost use Rattle.bt_syntax.specs.Built.{IsBuilt};
 ghost use Rattle.bt_ports.specs.Faults.{Rose};
-ghost use Rattle.bt_ports.specs.World.{StillTells};
 ghost use Rattle.bt_top.specs.blobl.Meaning as spec;
-ghost use Rattle.bt_top.specs.blobl.Inside.{LineResult, PrintsOnly};
-ghost use Rattle.bt_top.specs.declared.blobl.course.Stop.{Stop};
+ghost use Rattle.bt_top.specs.Outside.{SameCounts, StillTold};
+ghost use Rattle.bt_top.specs.blobl.Inside.{LineShown, PrintsOnly};
+ghost use Rattle.bt_top.specs.declared.blobl.course.PassStop.{PassStop};
 
-use super::course::{Outcome, Stop};
+use super::course::{LineResult, PassStop};
 use bt_eval::{Mapped, Spot, content_fault, run_mapping};
 use bt_ports::NoMemory;
 use bt_ports::blob::Blob;
@@ -31,27 +31,27 @@ fn line_bytes(alloc: Global, items: Items) -> Blob
 }
 
 // What a mapping makes of a message, by what is printed of it.
-fn shown(mapped: Mapped) -> Result<Outcome, NoMemory>
+fn shown(mapped: Mapped) -> Result<LineResult, NoMemory>
     ensures { IfOk result (λ o. o ≡ spec.shown mapped) }
 {
     match mapped {
         Mapped::Changed(msg) => {
             let mut bytes = msg.content;
             bytes.push_all(b"\n")?;
-            Ok(Outcome::Prints(bytes))
+            Ok(LineResult::Prints(bytes))
         }
-        Mapped::Dropped => Ok(Outcome::Drops),
-        Mapped::Flagged(text) => Ok(Outcome::Fails(text)),
+        Mapped::Dropped => Ok(LineResult::Drops),
+        Mapped::Flagged(text) => Ok(LineResult::Fails(text)),
     }
 }
 
 /// What becomes of a line.
-fn outcome(alloc: Global, ready: &Ready, line: Blob) -> Result<Outcome, NoMemory>
+fn outcome(alloc: Global, ready: &Ready, line: Blob) -> Result<LineResult, NoMemory>
     requires { IsBuilt ready.now.mapping }
     ensures { IfOk result (λ o. o ≡ spec.outcome ready.now.mapping line) }
 {
     match content_fault(alloc, line.as_slice())? {
-        Some(text) => Ok(Outcome::Fails(Text::make(alloc, text)?)),
+        Some(text) => Ok(LineResult::Fails(Text::make(alloc, text)?)),
         None => {
             let msg = Msg {
                 content: line,
@@ -70,8 +70,8 @@ fn outcome(alloc: Global, ready: &Ready, line: Blob) -> Result<Outcome, NoMemory
 
 // Says that the mapping of the n-th line failed.
 fn say_failure<W: World>(alloc: Global, n: u64, text: &Text, world: &mut W) -> Result<(), NoMemory>
-    ensures told { StillTells (W.tells world.old) (W.tells world.new) × StillTells (W.tells_printed world.old) (W.tells_printed world.new) × StillTells (W.tells_lines world.old) (W.tells_lines world.new) }
-    ensures steady { (W.file_faults world.new ≡ W.file_faults world.old) × (W.open_faults world.new ≡ W.open_faults world.old) × (W.print_faults world.new ≡ W.print_faults world.old) }
+    ensures told { StillTold ⟦<W as World>⟧ world.old world.new }
+    ensures steady { SameCounts ⟦<W as World>⟧ world.old world.new }
     ensures same { IsTrue (W.tells world.new) → W.tale world.new ≡ record (W.tale world.old) { lines = (W.tale world.new).lines } }
     ensures ok { IsTrue (W.tells_lines world.new) → OnOk result ((W.tale world.new).lines ≡ (W.tale world.old).lines ++ (codes "line " ++ decimal n ++ codes ": " ++ text.now) ∷ []) }
     ensures err { IfErr result (λ _. W.tale world.new ≡ W.tale world.old) }
@@ -87,23 +87,28 @@ fn say_failure<W: World>(alloc: Global, n: u64, text: &Text, world: &mut W) -> R
 }
 
 // Prints or says the outcome of the n-th line, and gives whether its mapping failed.
-fn tell<W: World>(alloc: Global, n: u64, outcome: Outcome, world: &mut W) -> Result<bool, Stop>
-    ensures told { StillTells (W.tells world.old) (W.tells world.new) × StillTells (W.tells_printed world.old) (W.tells_printed world.new) × StillTells (W.tells_lines world.old) (W.tells_lines world.new) }
+fn tell<W: World>(
+    alloc: Global,
+    n: u64,
+    outcome: LineResult,
+    world: &mut W,
+) -> Result<bool, PassStop>
+    ensures told { StillTold ⟦<W as World>⟧ world.old world.new }
     ensures steady { (W.file_faults world.new ≡ W.file_faults world.old) × (W.open_faults world.new ≡ W.open_faults world.old) }
     ensures counted { OnOk result (W.print_faults world.new ≡ W.print_faults world.old) }
-    ensures failed { IfErr result (λ stop. stop ≡ Stop.PrintFailed → Rose (W.print_faults world.old) (W.print_faults world.new)) }
+    ensures failed { IfErr result (λ stop. stop ≡ PassStop.PrintFailed → Rose (W.print_faults world.old) (W.print_faults world.new)) }
     ensures only { IsTrue (W.tells world.new) → PrintsOnly (W.tale world.old) (W.tale world.new) }
-    ensures ends { LineResult result n outcome (W.tells world.new) (W.tells_printed world.new) (W.tells_lines world.new) (W.tale world.old) (W.tale world.new) }
+    ensures ends { LineShown result n outcome (W.tells world.new) (W.tells_printed world.new) (W.tells_lines world.new) (W.tale world.old) (W.tale world.new) }
 {
     match outcome {
-        Outcome::Prints(bytes) => match world.print(bytes.as_slice()) {
+        LineResult::Prints(bytes) => match world.print(bytes.as_slice()) {
             Ok(()) => Ok(false),
-            Err(PrintFailed) => Err(Stop::PrintFailed),
+            Err(PrintFailed) => Err(PassStop::PrintFailed),
         },
-        Outcome::Drops => Ok(false),
-        Outcome::Fails(text) => match say_failure(alloc, n, &text, world) {
+        LineResult::Drops => Ok(false),
+        LineResult::Fails(text) => match say_failure(alloc, n, &text, world) {
             Ok(()) => Ok(true),
-            Err(NoMemory) => Err(Stop::NoMemory),
+            Err(NoMemory) => Err(PassStop::NoMemory),
         },
     }
 }
@@ -115,18 +120,18 @@ pub(crate) fn map_line<W: World>(
     n: u64,
     items: Items,
     world: &mut W,
-) -> Result<bool, Stop>
+) -> Result<bool, PassStop>
     requires one { length items.list ≡ 1 }
     requires built { IsBuilt ready.now.mapping }
-    ensures told { StillTells (W.tells world.old) (W.tells world.new) × StillTells (W.tells_printed world.old) (W.tells_printed world.new) × StillTells (W.tells_lines world.old) (W.tells_lines world.new) }
+    ensures told { StillTold ⟦<W as World>⟧ world.old world.new }
     ensures steady { (W.file_faults world.new ≡ W.file_faults world.old) × (W.open_faults world.new ≡ W.open_faults world.old) }
     ensures counted { OnOk result (W.print_faults world.new ≡ W.print_faults world.old) }
-    ensures failed { IfErr result (λ stop. stop ≡ Stop.PrintFailed → Rose (W.print_faults world.old) (W.print_faults world.new)) }
+    ensures failed { IfErr result (λ stop. stop ≡ PassStop.PrintFailed → Rose (W.print_faults world.old) (W.print_faults world.new)) }
     ensures only { IsTrue (W.tells world.new) → PrintsOnly (W.tale world.old) (W.tale world.new) }
-    ensures ends { LineResult result n (spec.outcome ready.now.mapping (spec.line_bytes items.list)) (W.tells world.new) (W.tells_printed world.new) (W.tells_lines world.new) (W.tale world.old) (W.tale world.new) }
+    ensures ends { LineShown result n (spec.outcome ready.now.mapping (spec.line_bytes items.list)) (W.tells world.new) (W.tells_printed world.new) (W.tells_lines world.new) (W.tale world.old) (W.tale world.new) }
 {
     match outcome(alloc, ready, line_bytes(alloc, items)) {
         Ok(outcome) => tell(alloc, n, outcome, world),
-        Err(NoMemory) => Err(Stop::NoMemory),
+        Err(NoMemory) => Err(PassStop::NoMemory),
     }
 }
