@@ -1,0 +1,7 @@
+//! The literal patterns of a mapping, each built once.
+#![tactic(auto)]
+
+mod found;
+pub mod patterns;
+
+pub use patterns::{PatternFault, build_patterns};
