@@ -1,0 +1,7 @@
+use Rattle.std.proofs.Common.{◌≡◌, ◌++◌, map}
+use Rattle.std.specs.Vec.Iter.{into_iter_items}
+use Rattle.bt_objects.specs.Objects as spec
+use Rattle.bt_objects.proofs.objects.members_of.Given as goal
+
+abbrev pub invariant-loop-member : goal.invariant-loop-member
+invariant-loop-member l = map spec.member_of l.fn.members.items ≡ l.got ++ map spec.member_of (into_iter_items l.member-iterator)
