@@ -8,7 +8,6 @@
 mod fields;
 mod lists;
 mod objects;
-mod worlds;
 
 use bt_ports::NoMemory;
 use fields::Fields;
@@ -28,11 +27,6 @@ fn given(alloc: Global, line: &str) -> Result<String, NoMemory> {
         "answerer" => objects::answerer(alloc, &fields),
         "clock" => objects::clock(alloc, &fields),
         "printer" => objects::printer(alloc, &fields),
-        "read_file" => worlds::read_file(alloc, &fields),
-        "open_source" => worlds::open_source(alloc, &fields),
-        "open_sink" => worlds::open_sink(alloc, &fields),
-        "take_clock" => worlds::take_clock(alloc, &fields),
-        "keep" => worlds::keep(alloc, &fields),
         _ => Ok(String::from_str(alloc, " no such case")?),
     }
 }
