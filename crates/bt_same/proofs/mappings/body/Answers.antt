@@ -1,0 +1,7 @@
+use Rattle.std.proofs.Common.{arith}
+use Rattle.bt_same.specs.Layers.{SameMapStmt}
+use Rattle.bt_same.proofs.Laws.{apart}
+use Rattle.bt_same.proofs.mappings.body.Goals as goal
+
+pub returns-then-a-b : goal.returns-then-a-b
+returns-then-a-b c = apart SameMapStmt c.args.a.now c.args.b.now (omega arith)
