@@ -11,6 +11,7 @@ use Rattle.bt_value.specs.declared.message.Out.TheVariants.{Value, Failed, Delet
 use Rattle.bt_kinds.specs.declared.kinds.Kind.{Kind}
 use Rattle.bt_kinds.specs.declared.kinds.Kind.TheVariants as k
 
+-- the kind of a value by its form
 abbrev kind_at : Val-F Val → Kind
 kind_at Val-F.Null = k.Null
 kind_at (Val-F.Bool b) = k.Bool

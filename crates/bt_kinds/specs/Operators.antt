@@ -21,10 +21,12 @@ use Rattle.bt_kinds.specs.declared.targets.Chunk.TheVariants as c
 use Rattle.bt_kinds.specs.declared.operators.Operands.{Operands}
 use Rattle.bt_kinds.specs.declared.operators.Operands.TheVariants as pr
 
+-- two numbers as operands
 abbrev pub numbers_of : Result (ℤ × ℤ) Kind → Result Operands Kind
 numbers_of (Ok p) = Ok (pr.Numbers p.0 p.1)
 numbers_of (Err kd) = Err kd
 
+-- two texts as operands
 abbrev pub texts_of : Result (Chunk × Chunk) Kind → Result Operands Kind
 texts_of (Ok p) = Ok (pr.Texts p.0 p.1)
 texts_of (Err kd) = Err kd
@@ -44,6 +46,7 @@ joined (c.Str s) (c.Str t) = v.Str (s ++ t)
 joined (c.Str s) (c.Bytes t) = v.Bytes (s ++ t)
 joined (c.Bytes s) t = v.Bytes (s ++ bytes_of t)
 
+-- whether a number is 0
 abbrev pub is_zero : ℤ → Bool
 is_zero (pos n) = n == 0
 is_zero (negsuc n) = false
@@ -57,6 +60,7 @@ quotient m n = if is_zero n then failure (codes "/") (codes "zero divisor") else
 abbrev pub remainder : ℤ → ℤ → Out
 remainder m n = if is_zero n then failure (codes "%") (codes "zero divisor") else Value (v.Int (int_rem m n))
 
+-- whether an order of the left to the right side is one that `<`, `<=`, `>` or `>=` asks for
 abbrev pub passes_order : Op → Ordering → Bool
 passes_order op.Less o = is_lt o
 passes_order op.AtMost o = is_le o
@@ -69,13 +73,16 @@ abbrev pub pair_cmp : Operands → Ordering
 pair_cmp (pr.Numbers m n) = int_cmp m n
 pair_cmp (pr.Texts s t) = slice_cmp nat_cmp (bytes_of s) (bytes_of t)
 
+-- `<`, `<=`, `>` and `>=`: of two numbers or two texts whether they stand in that order, and else a wrong type
 abbrev pub ordered : Op → Val → Val → Out
 ordered o x y = on (op_name o) (pair x y) (λ p. Value (v.Bool (passes_order o (pair_cmp p))))
 
+-- the sum of two numbers, or two texts joined
 abbrev pub plus : Operands → Out
 plus (pr.Numbers m n) = int (codes "+") (m +ℤ n)
 plus (pr.Texts s t) = Value (joined s t)
 
+-- `+`: of two numbers or two texts
 abbrev pub added : Val → Val → Out
 added x y = on (codes "+") (pair x y) plus
 
@@ -86,9 +93,11 @@ arithmetic op.Mul m n = int (codes "*") (m *ℤ n)
 arithmetic op.Div m n = quotient m n
 arithmetic _ m n = remainder m n
 
+-- an operator of two numbers, and else a wrong type
 abbrev pub on_numbers : Op → Val → Val → Out
 on_numbers o x y = on (op_name o) (two (number x) (number y)) (λ p. arithmetic o p.0 p.1)
 
+-- an operator of two booleans, and else a wrong type
 abbrev pub on_booleans : Op → Val → Val → (Bool → Bool → Bool) → Out
 on_booleans o x y f = on (op_name o) (two (boolean x) (boolean y)) (λ p. Value (v.Bool (f p.0 p.1)))
 

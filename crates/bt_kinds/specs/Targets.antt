@@ -8,6 +8,7 @@ use Rattle.bt_kinds.specs.declared.kinds.Kind.{Kind}
 use Rattle.bt_kinds.specs.declared.targets.Chunk.{Chunk}
 use Rattle.bt_kinds.specs.declared.targets.Chunk.TheVariants as c
 
+-- the boolean of a value by its form, or the kind that is given
 abbrev boolean_at : Kind → Val-F Val → Result Bool Kind
 boolean_at kd (Val-F.Bool b) = Ok b
 boolean_at kd _ = Err kd
@@ -16,6 +17,7 @@ boolean_at kd _ = Err kd
 unfoldable pub boolean : Val → Result Bool Kind
 boolean x = boolean_at (kind_of x) (out-Val x)
 
+-- the number of a value by its form, or the kind that is given
 abbrev number_at : Kind → Val-F Val → Result ℤ Kind
 number_at kd (Val-F.Int n) = Ok n
 number_at kd _ = Err kd
@@ -24,6 +26,7 @@ number_at kd _ = Err kd
 unfoldable pub number : Val → Result ℤ Kind
 number x = number_at (kind_of x) (out-Val x)
 
+-- the string of a value by its form, or the kind that is given
 abbrev string_at : Kind → Val-F Val → Result (List ℕ) Kind
 string_at kd (Val-F.Str s) = Ok s
 string_at kd _ = Err kd
@@ -32,6 +35,7 @@ string_at kd _ = Err kd
 unfoldable pub string : Val → Result (List ℕ) Kind
 string x = string_at (kind_of x) (out-Val x)
 
+-- the text of a value by its form, or the kind that is given
 abbrev text_at : Kind → Val-F Val → Result Chunk Kind
 text_at kd (Val-F.Str s) = Ok (c.Str s)
 text_at kd (Val-F.Bytes b) = Ok (c.Bytes b)
@@ -51,6 +55,7 @@ abbrev pub value_of : Chunk → Val
 value_of (c.Str s) = v.Str s
 value_of (c.Bytes b) = v.Bytes b
 
+-- the elements of a value by its form, or the kind that is given
 abbrev array_at : Kind → Val-F Val → Result (List Val) Kind
 array_at kd (Val-F.Arr xs) = Ok xs
 array_at kd _ = Err kd
@@ -59,6 +64,7 @@ array_at kd _ = Err kd
 unfoldable pub array : Val → Result (List Val) Kind
 array x = array_at (kind_of x) (out-Val x)
 
+-- the members of a value by its form, or the kind that is given
 abbrev object_at : Kind → Val-F Val → Result (List (List ℕ × Val)) Kind
 object_at kd (Val-F.Obj ms) = Ok ms
 object_at kd _ = Err kd
@@ -73,6 +79,7 @@ two (Ok a) (Ok b) = Ok (a, b)
 two (Ok a) (Err kd) = Err kd
 two (Err kd) r = Err kd
 
+-- whether a text is a string
 abbrev pub is_string : Chunk → Bool
 is_string (c.Str s) = true
 is_string (c.Bytes b) = false

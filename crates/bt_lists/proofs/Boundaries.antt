@@ -1,8 +1,8 @@
 -- Where a text may be cut.
-use Rattle.std.proofs.Common.{◌≡◌, ◌<◌, ◌≤◌, ◌↔◌, ◌&&◌, ℕ, List, Bool, true, false, not, length, get_or, refl, sym, arith, ltb, leb}
+use Rattle.std.proofs.Common.{◌≡◌, ◌↔◌, ℕ, List, Bool, true, false, length, get_or, refl, sym, arith, ltb, leb}
 use Rattle.std.specs.Bool.{IsTrue}
 use Rattle.std.specs.Str.{IsCharBoundary}
-use Rattle.std.proofs.lemmas.Bool.{lt-ltb, le-ltb, le-leb, lt-leb, ltb-true, ltb-false, leb-true, leb-false}
+use Rattle.std.proofs.lemmas.Bool.{le-leb, ltb-true, ltb-false, leb-true, leb-false}
 use Rattle.bt_lists.specs.Slices.{is_boundary}
 
 holds : (s : List ℕ) (i : ℕ) (a b c d : Bool) → leb i (length s) ≡ a → ltb i (length s) ≡ b → leb 128 (get_or s i 0) ≡ c → ltb (get_or s i 0) 192 ≡ d

@@ -1,9 +1,9 @@
 -- What loops over lists of lists have gathered so far.
-use Rattle.std.proofs.Common.{◌≡◌, List, [], ◌∷◌, ◌++◌, Result, Ok, Err, refl, sym, ap, append_assoc}
+use Rattle.std.proofs.Common.{◌≡◌, List, [], ◌++◌, Result, Ok, Err, refl, sym, ap, append_assoc}
 use Rattle.std.proofs.lemmas.List.{append-nil}
 use Rattle.std.specs.List.{flat_map}
 use Rattle.bt_value.specs.declared.val.Val.{Val}
-use Rattle.bt_lists.specs.Lists.{after_all, arrays}
+use Rattle.bt_lists.specs.Lists.{after_all}
 use Rattle.bt_kinds.specs.Targets.{both}
 use Rattle.bt_kinds.specs.declared.kinds.Kind.{Kind}
 

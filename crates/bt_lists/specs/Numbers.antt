@@ -1,17 +1,14 @@
 -- The methods on numbers.
-use Rattle.std.specs.Prelude.{ℕ, ℤ, pos, negsuc, ◌+ℤ◌, neg_ℤ, unsigned_abs, List, [], ◌∷◌, codes, Bool, true, false, ◌&&◌, ◌==◌, Option, Some, None, Result, Ok, Err, if◌then◌else◌, nat_lt, length, drop, slice_index}
+use Rattle.std.specs.Prelude.{ℕ, ℤ, pos, ◌+ℤ◌, unsigned_abs, List, [], ◌∷◌, codes}
 use Rattle.std.specs.Int.{int_min, int_max}
 use Rattle.std.specs.List.{fold}
-use Rattle.std.specs.Str.{all_ascii_digits}
-use Rattle.std.specs.Str.Parse.{digits_value}
-use Rattle.bt_value.specs.Plain.{is_i64}
 use Rattle.bt_value.specs.declared.val.Val.{Val}
 use Rattle.bt_value.specs.declared.val.Val.TheVariants as v
 use Rattle.bt_value.specs.declared.message.Out.{Out}
 use Rattle.bt_value.specs.declared.message.Out.TheVariants.{Value}
 use Rattle.bt_kinds.specs.Kinds.{on, failure}
 use Rattle.bt_kinds.specs.Limits.{int}
-use Rattle.bt_kinds.specs.Targets.{number, numbers, array, string}
+use Rattle.bt_kinds.specs.Targets.{number, numbers, array}
 
 -- without its sign
 abbrev pub abs : Val → Out

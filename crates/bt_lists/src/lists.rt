@@ -3,7 +3,6 @@ ghost use Rattle.std.specs.Prelude.{◌≡◌, ◌++◌, [], IfOk, OnOk, IfSome,
 ghost use Rattle.std.specs.List.{flat_map};
 ghost use Rattle.bt_lists.specs.Lists as spec;
 
-use crate::slices::has_element;
 use bt_kinds::kinds::{Kind, failure, kind_name, kind_of, wrong};
 use bt_kinds::limits::{count, limited};
 use bt_kinds::moving::{into_vec, put};
@@ -201,28 +200,5 @@ pub fn index(alloc: Global, target: Val, i: Val) -> Result<Out, NoMemory>
             Err(kind) => wrong(alloc, "index", kind),
         },
         Err(kind) => wrong(alloc, "index", kind),
-    }
-}
-
-// The time grows with the square of the length.
-fn unique_of(alloc: Global, items: Vec<Val>) -> Result<Vals, NoMemory>
-    ensures { IfOk result (λ xs. xs ≡ spec.unique_from [] items.items) }
-{
-    let mut got = Items::new(alloc);
-    for item in items {
-        if !has_element(&got, &item) {
-            got.push(item)?;
-        }
-    }
-    Ok(got)
-}
-
-/// Without later equal elements.
-pub fn unique(alloc: Global, target: Val) -> Result<Out, NoMemory>
-    ensures { IfOk result (λ o. o ≡ spec.unique target) }
-{
-    match array(target) {
-        Ok(items) => Ok(Out::Value(Val::Arr(unique_of(alloc, into_vec(alloc, items)?)?))),
-        Err(kind) => wrong(alloc, "unique", kind),
     }
 }

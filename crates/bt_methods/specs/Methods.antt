@@ -8,6 +8,7 @@ use Rattle.bt_value.specs.declared.message.Out.TheVariants.{Failed}
 use Rattle.bt_methods.specs.Arguments.{first, optional, rest}
 use Rattle.bt_texts.specs.Conversions as c
 use Rattle.bt_texts.specs.Encodings as e
+use Rattle.bt_lists.specs.Distinct as d
 use Rattle.bt_lists.specs.Lists as l
 use Rattle.bt_lists.specs.Numbers as n
 use Rattle.bt_objects.specs.Objects as o
@@ -58,7 +59,7 @@ method m.Merge x args = o.merge x (first args)
 method m.Assign x args = o.assign x (first args)
 method m.Without x args = o.without x args
 method m.Sort x args = so.sort x
-method m.Unique x args = l.unique x
+method m.Unique x args = d.unique x
 method m.ReFindObject x args = p.re_find_object x (first args)
 method m.ReReplaceAll x args = p.re_replace_all x (first args) (first (rest args))
 method m.Flatten x args = l.flatten x

@@ -121,6 +121,14 @@ target_class m.Assign = c.Object
 target_class m.Without = c.Object
 target_class _ = c.Any
 
+-- whether a method takes a target of a kind
+abbrev pub takes : MethodId → Kind → Bool
+takes id kd = admits (target_class id) kd
+
+-- the failure of a method whose target or argument is of a kind that it doesn't take
+abbrev pub refusal : MethodId → Kind → Out
+refusal id kd = wrong (method_name id) kd
+
 -- the kinds that a method takes as each of its arguments
 abbrev pub argument_class : MethodId → Class
 argument_class m.TrimPrefix = c.Text
@@ -156,7 +164,7 @@ first_refused cl (o ∷ os) = if admits cl (kind_of_out o) then first_refused cl
 
 -- the kind of the first outcome that the method doesn't take: the target, and then the arguments
 abbrev pub refused : MethodId → Out → List Out → Option Kind
-refused id x args = if admits (target_class id) (kind_of_out x) then first_refused (argument_class id) args else Some (kind_of_out x)
+refused id x args = if takes id (kind_of_out x) then first_refused (argument_class id) args else Some (kind_of_out x)
 
 -- the text of the first that failed
 abbrev pub first_failure : List Out → Option (List ℕ)
@@ -187,14 +195,14 @@ gathered os = gather (first_failure os) (all_values os)
 -- what a method gives of a target that is no value: the first argument that failed, and else a wrong type
 abbrev pub on_none : MethodId → Combined → Kind → Out
 on_none id (g.Failed t) kd = Failed t
-on_none id (g.Values xs) kd = wrong (method_name id) kd
-on_none id g.Others kd = wrong (method_name id) kd
+on_none id (g.Values xs) kd = refusal id kd
+on_none id g.Others kd = refusal id kd
 
 -- what a method gives of a value, of its arguments together, and of the first kind that is refused
 abbrev pub on_value : MethodId → Val → Combined → Kind → Out
 on_value id x (g.Failed t) kd = Failed t
 on_value id x (g.Values xs) kd = method id x xs
-on_value id x g.Others kd = wrong (method_name id) kd
+on_value id x g.Others kd = refusal id kd
 
 -- what a method gives of a target, of its arguments together, and of the first kind that is refused
 abbrev pub on_target : MethodId → Out → Combined → Kind → Out

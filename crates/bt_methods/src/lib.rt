@@ -6,4 +6,4 @@ pub mod outcomes;
 
 pub use bt_kinds::{negate, operate};
 pub use methods::call;
-pub use outcomes::called;
+pub use outcomes::{called, takes};

@@ -4,7 +4,7 @@ ghost use Rattle.bt_methods.specs.Arguments as arguments;
 ghost use Rattle.bt_methods.specs.Methods.{method};
 
 use bt_instants::times;
-use bt_lists::{lists, numbers, slices, sorts};
+use bt_lists::{distinct, lists, numbers, slices, sorts};
 use bt_matches::patterns;
 use bt_objects::objects;
 use bt_patterns::Pattern;
@@ -151,7 +151,7 @@ pub fn call(
         },
         MethodId::Without => objects::without(alloc, target, args),
         MethodId::Sort => sorts::sort(alloc, target),
-        MethodId::Unique => lists::unique(alloc, target),
+        MethodId::Unique => distinct::unique(alloc, target),
         MethodId::ReFindObject => {
             let a = first(&mut args);
             patterns::re_find_object(alloc, target, a, pattern)

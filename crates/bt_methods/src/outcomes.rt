@@ -1,5 +1,8 @@
 //! The methods on what queries give: values, failures, and what is no value.
-ghost use Rattle.std.specs.Prelude.{◌≡◌, IfOk};
+ghost use Rattle.std.specs.Prelude.{◌≡◌, false, List, IfOk};
+ghost use Rattle.bt_value.specs.declared.val.Val.{Val};
+ghost use Rattle.bt_kinds.specs.Kinds.{kind_of};
+ghost use Rattle.bt_methods.specs.Methods.{method};
 ghost use Rattle.bt_methods.specs.Outcomes as spec;
 
 use crate::methods::call;
@@ -111,6 +114,15 @@ pub fn target_class(id: MethodId) -> Class
     }
 }
 
+/// Whether a method takes a target of a kind. Of a target that it doesn't take, a method gives the
+/// failure that names the target's kind, whatever the arguments are.
+pub fn takes(id: MethodId, kind: Kind) -> bool
+    ensures class { result ≡ spec.takes id kind }
+    ensures refused { (x : Val) (args : List Val) → spec.takes id (kind_of x) ≡ false → method id x args ≡ spec.refusal id (kind_of x) }
+{
+    admits(target_class(id), kind)
+}
+
 /// The kinds that a method takes as each of its arguments.
 pub fn argument_class(id: MethodId) -> Class
     ensures { result ≡ spec.argument_class id }
@@ -160,7 +172,7 @@ fn refused(id: MethodId, target: &Out, args: &[Out]) -> Option<Kind>
     ensures { result ≡ spec.refused id target.now args.now }
 {
     let kind = kind_of_out(target);
-    if admits(target_class(id), kind) {
+    if takes(id, kind) {
         first_refused(argument_class(id), args)
     } else {
         Some(kind)

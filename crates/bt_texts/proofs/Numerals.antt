@@ -1,14 +1,14 @@
 -- The number of a text, by what `parse` answers.
-use Rattle.std.proofs.Common.{◌≡◌, ◌≢◌, ◌<◌, ◌≤◌, ◌^◌, ◌&&◌, ℕ, zero, suc, List, [], ◌∷◌, ◌∙◌, Bool, true, false, Option, Some, None, Result, Ok, Err, length, drop, get_or, refl, sym, ap, arith, if◌then◌else◌, eqb, ltb}
-use Rattle.std.specs.Prelude.{ℤ, pos, negsuc, neg_ℤ}
+use Rattle.std.proofs.Common.{◌≡◌, ◌≢◌, ◌<◌, ◌≤◌, ◌^◌, ◌&&◌, ℕ, zero, suc, List, [], ◌∷◌, ◌∙◌, Bool, true, false, Option, Some, None, Result, Ok, Err, length, drop, get_or, refl, sym, ap, arith, if◌then◌else◌, ltb}
+use Rattle.std.specs.Prelude.{ℤ, pos, neg_ℤ}
 use Rattle.std.specs.Int.{w64}
 use Rattle.std.specs.Result.{OkIff, result_ok}
 use Rattle.std.specs.Str.{all_ascii_digits}
 use Rattle.std.specs.Str.Parse.{ParsesSigned, digits_value}
-use Rattle.std.proofs.lemmas.Bool.{lt-ltb, ltb-true, eqb-true, eq-eqb, ne_eqb}
+use Rattle.std.proofs.lemmas.Bool.{lt-ltb, ltb-true, eqb-true, eq-eqb}
 use Rattle.std.proofs.lemmas.Str.Parse.{IsNumeralModel, numerals_by_value, tells_all_ascii_digits, parse_signed_minus, parse_signed_plain}
 use Rattle.bt_value.specs.Plain.{is_i64}
-use Rattle.bt_texts.specs.Conversions.{number_text, is_minus, digits_of, signed, is_numeral}
+use Rattle.bt_texts.specs.Conversions.{number_text, is_minus, is_numeral}
 
 own : IsNumeralModel (λ ds. all_ascii_digits ds ≡ true) (digits_value 10)
 own = numerals_by_value _ tells_all_ascii_digits

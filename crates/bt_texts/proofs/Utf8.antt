@@ -1,11 +1,11 @@
 -- Whether bytes are text, and the values of JSON texts.
-use Rattle.std.proofs.Common.{◌≡◌, ℕ, List, Bool, true, false, Option, Some, None, refl, ap, is_some, IsSome, if◌then◌else◌}
+use Rattle.std.proofs.Common.{◌≡◌, ℕ, List, Bool, true, false, Some, None, refl}
 use Rattle.std.specs.Prelude.{IsUtf8, string_bytes}
 use Rattle.std.proofs.Common.{String, Global}
 use Rattle.std.specs.Str.{is_utf8}
 use Rattle.std.proofs.lemmas.Str.{is_utf8-from_IsUtf8, IsUtf8-from_is_utf8, IsUtf8-string_bytes}
 use Rattle.serde_json.specs.Read.{read}
-use Rattle.bt_value.specs.Reading.{reading, of_data}
+use Rattle.bt_value.specs.Reading.{reading}
 use Rattle.bt_value.specs.declared.val.Val.{Val}
 use Rattle.bt_texts.specs.Conversions.{json_value}
 

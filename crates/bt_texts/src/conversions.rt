@@ -1,5 +1,6 @@
 //! The conversions of values.
-ghost use Rattle.std.specs.Prelude.{◌≡◌, [], IfOk, IfSome, IsUtf8, map};
+ghost use Rattle.std.specs.Prelude.{◌≡◌, [], false, IfOk, IfSome, IsUtf8, map};
+ghost use Rattle.bt_value.specs.Plain.{has_bytes, some, some_member};
 ghost use Rattle.bt_texts.specs.Conversions as spec;
 
 use bt_kinds::kinds::{failure, kind_of, wrong};
@@ -9,14 +10,15 @@ use bt_kinds::targets::text;
 use bt_ports::NoMemory;
 use bt_ports::blob::Blob;
 use bt_ports::text::Text;
-use bt_value::{Fields, JsonFault, Members, Out, Val, Vals, has_bytes, read_json, write_json};
+use bt_value::{Fields, JsonFault, Members, Out, Val, Vals, read_json, write_json};
 use sqlite_items::Items;
 use std::alloc::Global;
 
 /// A string of bytes, where they are text.
 #[tactic(auto, using(crate::proofs::Utf8::is_text, crate::proofs::Utf8::no_text))]
 pub fn as_string(alloc: Global, b: &[u8]) -> Result<Option<Val>, NoMemory>
-    ensures { IfOk result (λ x. x ≡ spec.as_string b.now) }
+    ensures value { IfOk result (λ x. x ≡ spec.as_string b.now) }
+    ensures plain { IfOk result (λ x. IfSome x (λ w. has_bytes w ≡ false)) }
 {
     match std::str::from_utf8(b) {
         Ok(s) => Ok(Some(Val::Str(Text::make(alloc, s)?))),
@@ -28,7 +30,8 @@ pub fn as_string(alloc: Global, b: &[u8]) -> Result<Option<Val>, NoMemory>
 #[cycle(texts_of)]
 #[tactic(auto, using(bt_value::proofs::Depths::item_depth, bt_value::proofs::Depths::member_depth))]
 pub fn texts_of(alloc: Global, v: &Val) -> Result<Option<Val>, NoMemory>
-    ensures { IfOk result (λ x. x ≡ spec.texts_of v.now) }
+    ensures value { IfOk result (λ x. x ≡ spec.texts_of v.now) }
+    ensures plain { IfOk result (λ x. IfSome x (λ w. has_bytes w ≡ false)) }
 {
     match v {
         Val::Null => Ok(Some(Val::Null)),
@@ -50,7 +53,8 @@ pub fn texts_of(alloc: Global, v: &Val) -> Result<Option<Val>, NoMemory>
 #[cycle(texts_of)]
 #[tactic(auto, using(bt_value::proofs::Depths::item_depth, crate::proofs::Gathered::some_nothing, crate::proofs::Gathered::some_one))]
 fn texts_of_items(alloc: Global, items: &Vals) -> Result<Option<Vals>, NoMemory>
-    ensures { IfOk result (λ x. x ≡ spec.all (map spec.texts_of items.now)) }
+    ensures value { IfOk result (λ x. x ≡ spec.all (map spec.texts_of items.now)) }
+    ensures plain { IfOk result (λ x. IfSome x (λ ws. some (map has_bytes ws) ≡ false)) }
 {
     let mut got = Items::new(alloc);
     for item in items.as_slice() {
@@ -65,7 +69,8 @@ fn texts_of_items(alloc: Global, items: &Vals) -> Result<Option<Vals>, NoMemory>
 #[cycle(texts_of)]
 #[tactic(auto, using(bt_value::proofs::Depths::item_depth, bt_value::proofs::Depths::member_depth))]
 fn texts_of_members(alloc: Global, members: &Members) -> Result<Option<Members>, NoMemory>
-    ensures { IfOk result (λ x. x ≡ spec.all_members [] (map (λ m. (m.0, spec.texts_of m.1)) members.now)) }
+    ensures value { IfOk result (λ x. x ≡ spec.all_members [] (map (λ m. (m.0, spec.texts_of m.1)) members.now)) }
+    ensures plain { IfOk result (λ x. IfSome x (λ ms. some_member (map (λ m. (m.0, has_bytes m.1)) ms) ≡ false)) }
 {
     let mut got = Fields::new(alloc);
     for member in members.as_slice() {
@@ -83,13 +88,7 @@ pub fn written(alloc: Global, v: &Val) -> Result<Option<Blob>, NoMemory>
     ensures utf8 { IfOk result (λ r. IfSome r (λ b. IsUtf8 b)) }
 {
     match texts_of(alloc, v)? {
-        Some(plain) => {
-            // No bytes are left.
-            if has_bytes(&plain) {
-                return Err(NoMemory);
-            }
-            Ok(Some(write_json(alloc, &plain)?))
-        }
+        Some(plain) => Ok(Some(write_json(alloc, &plain)?)),
         None => Ok(None),
     }
 }

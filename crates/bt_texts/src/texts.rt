@@ -1,8 +1,9 @@
 //! The methods on texts.
-ghost use Rattle.std.specs.Prelude.{◌≡◌, ◌++◌, IfOk, OnOk, chars, length, nat_eq, slice_range, map};
+ghost use Rattle.std.specs.Prelude.{◌≡◌, ◌++◌, ◌<◌, ◌&&◌, IfOk, OnOk, chars, length, nat_eq, map, string_bytes};
 ghost use Rattle.std.specs.Char.{encode_utf8};
 ghost use Rattle.std.specs.List.{starts_with, ends_with, flat_map};
 ghost use Rattle.memchr.specs.Find.{matches};
+ghost use Rattle.bt_value.specs.declared.val.Val.{Str, Bytes};
 ghost use Rattle.bt_kinds.specs.Targets as targets;
 ghost use Rattle.bt_texts.specs.Texts as spec;
 
@@ -15,7 +16,7 @@ use bt_ports::text::Text;
 use bt_value::{Out, Val, Vals};
 use memchr::memmem;
 use sqlite_items::Items;
-use std::alloc::Global;
+use std::alloc::{AllocError, Global};
 
 /// ASCII letters in upper case.
 pub fn uppercase(alloc: Global, target: Val) -> Result<Out, NoMemory>
@@ -81,42 +82,6 @@ fn two_texts(target: Val, a: Val) -> Result<(Chunk, Chunk), Kind>
     }
 }
 
-/// A part of a string, as a string or as bytes.
-fn piece(alloc: Global, s: &str, from: usize, to: usize, as_string: bool) -> Result<Val, NoMemory>
-    ensures { IfOk result (λ x. x ≡ spec.made as_string (slice_range s.now from to)) }
-{
-    if as_string {
-        // Where both ends stand beside whole characters the part is there.
-        match s.get(from..to) {
-            Some(part) => Ok(Val::Str(Text::make(alloc, part)?)),
-            None => Err(NoMemory),
-        }
-    } else {
-        match s.as_bytes().get(from..to) {
-            Some(part) => Ok(Val::Bytes(Blob::make(alloc, part)?)),
-            None => Err(NoMemory),
-        }
-    }
-}
-
-/// Without a text at the beginning.
-pub fn trim_prefix(alloc: Global, target: Val, a: Val) -> Result<Out, NoMemory>
-    ensures { IfOk result (λ o. o ≡ spec.trim_prefix target a) }
-{
-    match string_and_text(target, a) {
-        Ok((s, t)) => {
-            let all = s.as_str();
-            let from = if begins(all.as_bytes(), t.as_slice()) {
-                t.as_slice().len()
-            } else {
-                0
-            };
-            Ok(Out::Value(piece(alloc, all, from, all.len(), t.is_string())?))
-        }
-        Err(kind) => wrong(alloc, "trim_prefix", kind),
-    }
-}
-
 fn begins(s: &[u8], t: &[u8]) -> bool
     ensures { result ≡ starts_with nat_eq s.now t.now }
 {
@@ -129,20 +94,83 @@ fn ends(s: &[u8], t: &[u8]) -> bool
     s.ends_with(t)
 }
 
+/// A string without another at its beginning.
+fn without_prefix<'a>(s: &'a str, t: &str) -> &'a str
+    ensures { result.now ≡ spec.without_prefix s.now t.now }
+{
+    if begins(s.as_bytes(), t.as_bytes()) {
+        &s[t.len()..]
+    } else {
+        s
+    }
+}
+
+/// Bytes without others at their beginning.
+#[tactic(auto, using(crate::proofs::Ends::prefix_fits))]
+fn bytes_without_prefix<'a>(s: &'a [u8], t: &[u8]) -> &'a [u8]
+    ensures { result.now ≡ spec.without_prefix s.now t.now }
+{
+    if begins(s, t) { &s[t.len()..] } else { s }
+}
+
+/// A string without another at its end.
+#[tactic(auto, using(crate::proofs::Ends::before_suffix, crate::proofs::Ends::suffix_fits))]
+fn without_suffix<'a>(s: &'a str, t: &str) -> &'a str
+    ensures { result.now ≡ spec.without_suffix s.now t.now }
+{
+    if ends(s.as_bytes(), t.as_bytes()) {
+        &s[..s.len() - t.len()]
+    } else {
+        s
+    }
+}
+
+/// Bytes without others at their end.
+#[tactic(auto, using(crate::proofs::Ends::suffix_fits))]
+fn bytes_without_suffix<'a>(s: &'a [u8], t: &[u8]) -> &'a [u8]
+    ensures { result.now ≡ spec.without_suffix s.now t.now }
+{
+    if ends(s, t) {
+        &s[..s.len() - t.len()]
+    } else {
+        s
+    }
+}
+
+/// Without a text at the beginning.
+pub fn trim_prefix(alloc: Global, target: Val, a: Val) -> Result<Out, NoMemory>
+    ensures { IfOk result (λ o. o ≡ spec.trim_prefix target a) }
+{
+    match string_and_text(target, a) {
+        Ok((s, t)) => match t {
+            Chunk::Str(t) => {
+                let left = without_prefix(s.as_str(), t.as_str());
+                Ok(Out::Value(Val::Str(Text::make(alloc, left)?)))
+            }
+            Chunk::Bytes(t) => {
+                let left = bytes_without_prefix(s.as_str().as_bytes(), t.as_slice());
+                Ok(Out::Value(Val::Bytes(Blob::make(alloc, left)?)))
+            }
+        },
+        Err(kind) => wrong(alloc, "trim_prefix", kind),
+    }
+}
+
 /// Without a text at the end.
 pub fn trim_suffix(alloc: Global, target: Val, a: Val) -> Result<Out, NoMemory>
     ensures { IfOk result (λ o. o ≡ spec.trim_suffix target a) }
 {
     match string_and_text(target, a) {
-        Ok((s, t)) => {
-            let all = s.as_str();
-            let to = if ends(all.as_bytes(), t.as_slice()) {
-                all.len().saturating_sub(t.as_slice().len())
-            } else {
-                all.len()
-            };
-            Ok(Out::Value(piece(alloc, all, 0, to, t.is_string())?))
-        }
+        Ok((s, t)) => match t {
+            Chunk::Str(t) => {
+                let left = without_suffix(s.as_str(), t.as_str());
+                Ok(Out::Value(Val::Str(Text::make(alloc, left)?)))
+            }
+            Chunk::Bytes(t) => {
+                let left = bytes_without_suffix(s.as_str().as_bytes(), t.as_slice());
+                Ok(Out::Value(Val::Bytes(Blob::make(alloc, left)?)))
+            }
+        },
         Err(kind) => wrong(alloc, "trim_suffix", kind),
     }
 }
@@ -192,28 +220,46 @@ fn characters(alloc: Global, s: &str, as_string: bool) -> Result<Vals, NoMemory>
     Ok(got)
 }
 
-fn between(alloc: Global, s: &str, t: &[u8], as_string: bool) -> Result<Vals, NoMemory>
-    ensures { IfOk result (λ xs. xs ≡ map (spec.made as_string) (spec.between s.now (length t.now) 0 (matches s.now t.now 0))) }
+/// The pieces of a string between another.
+fn string_between(alloc: Global, s: &str, t: &str) -> Result<Vals, NoMemory>
+    requires { 0 < length t.now }
+    ensures { IfOk result (λ xs. xs ≡ map Str (spec.between s.now (length t.now) 0 (matches s.now t.now 0))) }
 {
     let mut got = Items::new(alloc);
     let mut from: usize = 0;
-    for at in memmem::find_iter(s.as_bytes(), t) {
-        got.push(piece(alloc, s, from, at, as_string)?)?;
-        match at.checked_add(t.len()) {
-            Some(next) => from = next,
-            None => return Err(NoMemory),
-        }
+    for at in memmem::find_iter(s.as_bytes(), t.as_bytes()) {
+        got.push(Val::Str(Text::make(alloc, &s[from..at])?))?;
+        from = at + t.len();
     }
-    got.push(piece(alloc, s, from, s.len(), as_string)?)?;
+    got.push(Val::Str(Text::make(alloc, &s[from..])?))?;
     Ok(got)
 }
 
-fn pieces(alloc: Global, s: &str, t: &[u8], as_string: bool) -> Result<Vals, NoMemory>
-    ensures { IfOk result (λ xs. xs ≡ spec.pieces as_string s.now t.now) }
+/// The pieces of bytes between others.
+#[tactic(auto, using(crate::proofs::Cuts::byte_cuts))]
+fn bytes_between(alloc: Global, s: &[u8], t: &[u8]) -> Result<Vals, NoMemory>
+    requires { 0 < length t.now }
+    ensures { IfOk result (λ xs. xs ≡ map Bytes (spec.between s.now (length t.now) 0 (matches s.now t.now 0))) }
 {
-    match t {
-        [] => characters(alloc, s, as_string),
-        [_, ..] => between(alloc, s, t, as_string),
+    let mut got = Items::new(alloc);
+    let mut from: usize = 0;
+    for at in memmem::find_iter(s, t) {
+        got.push(Val::Bytes(Blob::make(alloc, &s[from..at])?))?;
+        from = at + t.len();
+    }
+    got.push(Val::Bytes(Blob::make(alloc, &s[from..])?))?;
+    Ok(got)
+}
+
+fn pieces(alloc: Global, s: &str, t: &Chunk) -> Result<Vals, NoMemory>
+    ensures { IfOk result (λ xs. xs ≡ spec.pieces (targets.is_string t.now) s.now (targets.bytes_of t.now)) }
+{
+    match t.as_slice() {
+        [] => characters(alloc, s, t.is_string()),
+        [_, ..] => match t {
+            Chunk::Str(t) => string_between(alloc, s, t.as_str()),
+            Chunk::Bytes(t) => bytes_between(alloc, s.as_bytes(), t.as_slice()),
+        },
     }
 }
 
@@ -222,32 +268,34 @@ pub fn split(alloc: Global, target: Val, a: Val) -> Result<Out, NoMemory>
     ensures { IfOk result (λ o. o ≡ spec.split target a) }
 {
     match string_and_text(target, a) {
-        Ok((s, t)) => Ok(Out::Value(Val::Arr(pieces(
-            alloc,
-            s.as_str(),
-            t.as_slice(),
-            t.is_string(),
-        )?))),
+        Ok((s, t)) => Ok(Out::Value(Val::Arr(pieces(alloc, s.as_str(), &t)?))),
         Err(kind) => wrong(alloc, "split", kind),
     }
 }
 
-/// A text made of others: a string where all of them are.
-fn made(as_string: bool, b: Blob) -> Result<Val, NoMemory>
-    ensures { IfOk result (λ x. x ≡ spec.made as_string b) }
+/// A string and others behind it, each with another before it.
+fn string_onto(first: String, rest: &[Text], t: &str) -> Result<String, AllocError>
+    ensures { IfOk result (λ r. string_bytes r ≡ string_bytes first ++ flat_map (λ r. t.now ++ r) rest.now) }
 {
-    if as_string {
-        match String::from_utf8(b.into_vec()) {
-            Ok(s) => Ok(Val::Str(Text::from_string(s))),
-            Err(_) => Err(NoMemory),
-        }
-    } else {
-        Ok(Val::Bytes(b))
+    let mut out = first;
+    for s in rest {
+        out.push_str(t)?;
+        out.push_str(s.as_str())?;
+    }
+    Ok(out)
+}
+
+fn string_joined(alloc: Global, ss: &[Text], t: &str) -> Result<String, AllocError>
+    ensures { IfOk result (λ r. string_bytes r ≡ spec.joined_by t.now ss.now) }
+{
+    match ss {
+        [] => Ok(String::new(alloc)),
+        [first, rest @ ..] => string_onto(String::from_str(alloc, first.as_str())?, rest, t),
     }
 }
 
-/// A text and others behind it, each with another before it.
-fn joined_onto(first: Blob, rest: &[Text], t: &[u8]) -> Result<Blob, NoMemory>
+/// Bytes and strings behind them, each with others before it.
+fn bytes_onto(first: Blob, rest: &[Text], t: &[u8]) -> Result<Blob, NoMemory>
     ensures { IfOk result (λ b. b ≡ first ++ flat_map (λ r. t.now ++ r) rest.now) }
 {
     let mut out = first;
@@ -258,15 +306,28 @@ fn joined_onto(first: Blob, rest: &[Text], t: &[u8]) -> Result<Blob, NoMemory>
     Ok(out)
 }
 
-fn joined_by(alloc: Global, ss: &Items<Text>, t: &[u8]) -> Result<Blob, NoMemory>
+fn bytes_joined(alloc: Global, ss: &[Text], t: &[u8]) -> Result<Blob, NoMemory>
     ensures { IfOk result (λ b. b ≡ spec.joined_by t.now ss.now) }
 {
-    match ss.as_slice() {
+    match ss {
         [] => Ok(Blob::new(alloc)),
         [first, rest @ ..] => {
             let start = Blob::make(alloc, first.as_str().as_bytes())?;
-            joined_onto(start, rest, t)
+            bytes_onto(start, rest, t)
         }
+    }
+}
+
+/// Strings joined by a text.
+fn joined(alloc: Global, ss: &Items<Text>, t: &Chunk) -> Result<Val, NoMemory>
+    ensures { IfOk result (λ x. x ≡ spec.made (targets.is_string t.now) (spec.joined_by (targets.bytes_of t.now) ss.now)) }
+{
+    match t {
+        Chunk::Str(t) => {
+            let all = string_joined(alloc, ss.as_slice(), t.as_str())?;
+            Ok(Val::Str(Text::from_string(all)))
+        }
+        Chunk::Bytes(t) => Ok(Val::Bytes(bytes_joined(alloc, ss.as_slice(), t.as_slice())?)),
     }
 }
 
@@ -278,10 +339,7 @@ pub fn join(alloc: Global, target: Val, a: Option<Val>) -> Result<Out, NoMemory>
         Some(a) => match array(target) {
             Ok(items) => match text(a) {
                 Ok(t) => match strings(alloc, into_vec(alloc, items)?)? {
-                    Ok(ss) => {
-                        let all = joined_by(alloc, &ss, t.as_slice())?;
-                        Ok(Out::Value(made(t.is_string(), all)?))
-                    }
+                    Ok(ss) => Ok(Out::Value(joined(alloc, &ss, &t)?)),
                     Err(kind) => wrong(alloc, "join", kind),
                 },
                 Err(kind) => wrong(alloc, "join", kind),
@@ -291,8 +349,8 @@ pub fn join(alloc: Global, target: Val, a: Option<Val>) -> Result<Out, NoMemory>
         None => match array(target) {
             Ok(items) => match strings(alloc, into_vec(alloc, items)?)? {
                 Ok(ss) => {
-                    let all = joined_by(alloc, &ss, &[])?;
-                    Ok(Out::Value(made(true, all)?))
+                    let all = string_joined(alloc, ss.as_slice(), "")?;
+                    Ok(Out::Value(Val::Str(Text::from_string(all))))
                 }
                 Err(kind) => wrong(alloc, "join", kind),
             },
@@ -301,30 +359,37 @@ pub fn join(alloc: Global, target: Val, a: Option<Val>) -> Result<Out, NoMemory>
     }
 }
 
-fn replaced_from(alloc: Global, s: &[u8], a: &[u8], t: &[u8]) -> Result<Blob, NoMemory>
+/// A string with another in the place of each occurrence of a third.
+fn string_replaced_from(alloc: Global, s: &str, a: &str, t: &str) -> Result<String, AllocError>
+    requires { 0 < length a.now }
+    ensures { IfOk result (λ r. string_bytes r ≡ spec.replaced_from s.now (length a.now) t.now 0 (matches s.now a.now 0)) }
+{
+    let mut out = String::new(alloc);
+    let mut from: usize = 0;
+    for at in memmem::find_iter(s.as_bytes(), a.as_bytes()) {
+        out.push_str(&s[from..at])?;
+        out.push_str(t)?;
+        from = at + a.len();
+    }
+    out.push_str(&s[from..])?;
+    Ok(out)
+}
+
+/// Bytes with others in the place of each occurrence of a third run.
+#[tactic(auto, using(crate::proofs::Cuts::byte_cuts))]
+fn bytes_replaced_from(alloc: Global, s: &[u8], a: &[u8], t: &[u8]) -> Result<Blob, NoMemory>
+    requires { 0 < length a.now }
     ensures { IfOk result (λ b. b ≡ spec.replaced_from s.now (length a.now) t.now 0 (matches s.now a.now 0)) }
 {
     let mut out = Blob::new(alloc);
     let mut from: usize = 0;
     for at in memmem::find_iter(s, a) {
-        push_part(&mut out, s, from, at)?;
+        out.push_all(&s[from..at])?;
         out.push_all(t)?;
-        match at.checked_add(a.len()) {
-            Some(next) => from = next,
-            None => return Err(NoMemory),
-        }
+        from = at + a.len();
     }
-    push_part(&mut out, s, from, s.len())?;
+    out.push_all(&s[from..])?;
     Ok(out)
-}
-
-fn push_part(out: &mut Blob, s: &[u8], from: usize, to: usize) -> Result<(), NoMemory>
-    ensures { OnOk result (out.new ≡ out.old ++ slice_range s.now from to) }
-{
-    match s.get(from..to) {
-        Some(part) => out.push_all(part),
-        None => Err(NoMemory),
-    }
 }
 
 fn push_char(alloc: Global, out: &mut Blob, c: char) -> Result<(), NoMemory>
@@ -337,8 +402,8 @@ fn push_char(alloc: Global, out: &mut Blob, c: char) -> Result<(), NoMemory>
     out.push_all(one.as_bytes())
 }
 
-/// A text before each character of another.
-fn woven(alloc: Global, s: &str, t: &[u8]) -> Result<Blob, NoMemory>
+/// Bytes before each character of a string.
+fn bytes_woven(alloc: Global, s: &str, t: &[u8]) -> Result<Blob, NoMemory>
     ensures { IfOk result (λ b. b ≡ flat_map (λ c. t.now ++ encode_utf8 c) (chars s.now)) }
 {
     let mut out = Blob::new(alloc);
@@ -349,16 +414,60 @@ fn woven(alloc: Global, s: &str, t: &[u8]) -> Result<Blob, NoMemory>
     Ok(out)
 }
 
-fn replaced(alloc: Global, s: &str, a: &[u8], t: &[u8]) -> Result<Blob, NoMemory>
+/// A string before each character of another.
+fn string_woven(alloc: Global, s: &str, t: &str) -> Result<String, AllocError>
+    ensures { IfOk result (λ r. string_bytes r ≡ flat_map (λ c. t.now ++ encode_utf8 c) (chars s.now)) }
+{
+    let mut out = String::new(alloc);
+    for c in s.chars() {
+        out.push_str(t)?;
+        out.push(c)?;
+    }
+    Ok(out)
+}
+
+fn string_replaced(alloc: Global, s: &str, a: &str, t: &str) -> Result<String, AllocError>
+    ensures { IfOk result (λ r. string_bytes r ≡ spec.replaced s.now a.now t.now) }
+{
+    match a.as_bytes() {
+        [] => {
+            let mut out = string_woven(alloc, s, t)?;
+            out.push_str(t)?;
+            Ok(out)
+        }
+        [_, ..] => string_replaced_from(alloc, s, a, t),
+    }
+}
+
+fn bytes_replaced(alloc: Global, s: &str, a: &[u8], t: &[u8]) -> Result<Blob, NoMemory>
     ensures { IfOk result (λ b. b ≡ spec.replaced s.now a.now t.now) }
 {
     match a {
         [] => {
-            let mut out = woven(alloc, s, t)?;
+            let mut out = bytes_woven(alloc, s, t)?;
             out.push_all(t)?;
             Ok(out)
         }
-        [_, ..] => replaced_from(alloc, s.as_bytes(), a, t),
+        [_, ..] => bytes_replaced_from(alloc, s.as_bytes(), a, t),
+    }
+}
+
+/// A string with a text in the place of each occurrence of another.
+fn replaced(alloc: Global, s: &str, a: &Chunk, b: &Chunk) -> Result<Val, NoMemory>
+    ensures { IfOk result (λ x. x ≡ spec.made (targets.is_string a.now && targets.is_string b.now) (spec.replaced s.now (targets.bytes_of a.now) (targets.bytes_of b.now))) }
+{
+    match a {
+        Chunk::Str(a) => match b {
+            Chunk::Str(b) => {
+                let all = string_replaced(alloc, s, a.as_str(), b.as_str())?;
+                Ok(Val::Str(Text::from_string(all)))
+            }
+            Chunk::Bytes(b) => {
+                let all = bytes_replaced(alloc, s, a.as_str().as_bytes(), b.as_slice())?;
+                Ok(Val::Bytes(all))
+            }
+        },
+        Chunk::Bytes(a) => Ok(Val::Bytes(bytes_replaced(alloc, s, a.as_slice(), b.as_slice())?)),
     }
 }
 
@@ -368,10 +477,7 @@ pub fn replace_all(alloc: Global, target: Val, a: Val, b: Val) -> Result<Out, No
 {
     match string(target) {
         Ok(s) => match two_texts(a, b) {
-            Ok((a, b)) => {
-                let all = replaced(alloc, s.as_str(), a.as_slice(), b.as_slice())?;
-                Ok(Out::Value(made(a.is_string() && b.is_string(), all)?))
-            }
+            Ok((a, b)) => Ok(Out::Value(replaced(alloc, s.as_str(), &a, &b)?)),
             Err(kind) => wrong(alloc, "replace_all", kind),
         },
         Err(kind) => wrong(alloc, "replace_all", kind),

@@ -1,6 +1,5 @@
-use Rattle.std.proofs.Common.{◌≡◌, ◌++◌, map, take, string_bytes}
+use Rattle.std.proofs.Common.{◌≡◌, ◌++◌, map, string_bytes}
 use Rattle.std.specs.Vec.Iter.{into_iter_items}
-use Rattle.bt_value.specs.declared.val.Val.{Int, Str}
 use Rattle.bt_lists.proofs.sorts.into_strings.Given as goal
 
 abbrev pub invariant-loop-s : goal.invariant-loop-s

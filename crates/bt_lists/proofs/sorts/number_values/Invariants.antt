@@ -1,6 +1,5 @@
-use Rattle.std.proofs.Common.{◌≡◌, ◌++◌, map, take, string_bytes}
-use Rattle.std.specs.Vec.Iter.{into_iter_items}
-use Rattle.bt_value.specs.declared.val.Val.{Int, Str}
+use Rattle.std.proofs.Common.{◌≡◌, map, take}
+use Rattle.bt_value.specs.declared.val.Val.{Int}
 use Rattle.bt_lists.proofs.sorts.number_values.Given as goal
 
 abbrev pub invariant-loop-n : goal.invariant-loop-n

@@ -1,4 +1,4 @@
-use Rattle.std.proofs.Common.{◌≡◌, ◌∙◌}
+use Rattle.std.proofs.Common.{◌∙◌}
 use Rattle.bt_lists.proofs.Sorted.{numbers_sorted}
 use Rattle.bt_lists.proofs.sorts.sorted_numbers.Goals as goal
 

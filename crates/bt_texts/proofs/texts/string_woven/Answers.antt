@@ -1,7 +1,7 @@
-use Rattle.std.proofs.Common.{◌∙◌, ◌++◌, sym, ap}
+use Rattle.std.proofs.Common.{◌∙◌, sym, string_bytes}
 use Rattle.std.proofs.lemmas.Str.{IsUtf8-past_char}
 use Rattle.bt_texts.proofs.Characters.{one_more_before, ended_before}
-use Rattle.bt_texts.proofs.texts.woven.Goals as goal
+use Rattle.bt_texts.proofs.texts.string_woven.Goals as goal
 
 pub loop-c-preserved : goal.loop-c-preserved
 loop-c-preserved c =
@@ -9,10 +9,10 @@ loop-c-preserved c =
     let i = c.loop-c.invariant in
     record {
       utf8 = IsUtf8-past_char _ _ c.in-Some.c i.utf8 e.0;
-      so_far = rw (c.in_ok-push_char.ensures, c.in_ok-push_all.ensures.ok) (i.so_far ∙ one_more_before c.args.t.now c.loop-c.out _ _ c.in-Some.c i.utf8 e.0);
+      so_far = rw (c.in_ok-push.ensures.bytes, c.in_ok-push_str.ensures.bytes) (i.so_far ∙ one_more_before c.args.t.now (string_bytes c.loop-c.out) _ _ c.in-Some.c i.utf8 e.0);
     }
 
 pub returns : goal.returns
 returns c =
     let e = c.in-None.ensures.steps in
-    sym (c.loop-c.invariant.so_far ∙ ended_before c.args.t.now c.loop-c.out _ e.0.0)
+    sym (c.loop-c.invariant.so_far ∙ ended_before c.args.t.now (string_bytes c.loop-c.out) _ e.0.0)

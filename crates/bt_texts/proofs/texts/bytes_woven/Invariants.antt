@@ -1,11 +1,9 @@
-use Rattle.std.proofs.Common.{◌≡◌, ◌++◌, map, length, take, chars}
+use Rattle.std.proofs.Common.{◌≡◌, ◌++◌, chars}
 use Rattle.std.specs.Prelude.{IsUtf8}
 use Rattle.std.specs.Char.{encode_utf8}
 use Rattle.std.specs.List.{flat_map}
 use Rattle.std.specs.Str.Iter.{chars_rest}
-use Rattle.memchr.specs.Find.{matches}
-use Rattle.bt_texts.specs.Texts as spec
-use Rattle.bt_texts.proofs.texts.woven.Given as goal
+use Rattle.bt_texts.proofs.texts.bytes_woven.Given as goal
 
 abbrev pub invariant-loop-c : goal.invariant-loop-c
 invariant-loop-c l = record {

@@ -1,0 +1,6 @@
+use Rattle.std.proofs.Common.{◌≡◌, ◌++◌, drop, string_bytes}
+use Rattle.std.specs.List.{flat_map}
+use Rattle.bt_texts.proofs.texts.string_onto.Given as goal
+
+abbrev pub invariant-loop-s : goal.invariant-loop-s
+invariant-loop-s l = string_bytes l.fn.first ++ flat_map (λ r. l.t ++ r) l.rest ≡ string_bytes l.out ++ flat_map (λ r. l.t ++ r) (drop l.s-index l.rest)
