@@ -1,0 +1,4 @@
+pub mod Ascii
+pub mod Placing
+pub mod Steps
+pub mod Sorted

@@ -1,0 +1,14 @@
+pub mod Contexts
+pub mod Contents
+pub mod Outcomes
+pub mod Operators
+pub mod Branches
+pub mod Literals
+pub mod Functions
+pub mod Forms
+pub mod Lambdas
+pub mod Methods
+pub mod Value
+pub mod Statements
+pub mod Maps
+pub mod Mapped
