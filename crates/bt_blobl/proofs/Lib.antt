@@ -1,0 +1,5 @@
+pub mod Faults
+pub mod Loop
+pub mod Tales
+pub mod Turns
+pub mod Whole

@@ -1,0 +1,65 @@
+-- What the text of a mapping says of `blobl`, and how its faults are told.
+use Rattle.std.specs.Prelude.{◌≡◌, ℕ, List, length, ◌++◌, None, codes, decimal, Result, Ok, Err}
+use Rattle.bt_lexer.specs.Lines.{HasTokens, HasFault}
+use Rattle.bt_lexer.specs.declared.token.LexFault.TheVariants as lexer
+use Rattle.bt_lexer.specs.declared.token.Token.{Token}
+use Rattle.bt_syntax.specs.Brackets.{deep_at}
+use Rattle.bt_syntax.specs.Built.{BuiltReading}
+use Rattle.bt_syntax.specs.Grammar.{ReadsMapping}
+use Rattle.bt_syntax.specs.Lexemes.{lexemes}
+use Rattle.bt_syntax.specs.Places.{Refuses}
+use Rattle.bt_syntax.specs.declared.fault.SyntaxFault.{SyntaxFault}
+use Rattle.bt_syntax.specs.declared.fault.SyntaxFault.TheVariants as parser
+use Rattle.bt_tree.specs.declared.tree.Mapping.{Mapping}
+use Rattle.bt_blobl.specs.declared.course.Halt.{Halt}
+use Rattle.bt_blobl.specs.declared.course.Halt.TheVariants as halt
+use Rattle.bt_blobl.specs.declared.course.MappingFault.{MappingFault}
+use Rattle.bt_blobl.specs.declared.course.MappingFault.TheVariants as faults
+use Rattle.bt_blobl.specs.declared.course.Pass.{Pass}
+
+-- the text has tokens, which the grammar refuses so
+abbrev pub IsRefused : List ℕ → SyntaxFault → Type 0
+IsRefused text fault = (ts : List Token) × HasTokens text ts × Refuses ReadsMapping (lexemes text ts) (length text) fault
+
+-- the text has this fault at this place: the lexer's first one, or the parser's, which tells a bracket too deep before all else
+abbrev pub HasMappingFault : MappingFault → ℕ → List ℕ → Type 0
+HasMappingFault faults.Character at text = HasFault text (lexer.Char at)
+HasMappingFault faults.Text at text = HasFault text (lexer.Text at)
+HasMappingFault faults.Number at text = HasFault text (lexer.Number at)
+HasMappingFault faults.Syntax at text = IsRefused text (parser.Syntax at)
+HasMappingFault faults.TooDeep at text = IsRefused text (parser.TooDeep at)
+
+-- the text is a mapping
+abbrev pub IsMappingText : List ℕ → Type 0
+IsMappingText text = (ts : List Token) × HasTokens text ts × (deep_at 0 (lexemes text ts) ≡ None) × (m : Mapping) × ReadsMapping m (lexemes text ts)
+
+-- it isn't of the form that runs
+abbrev pub IsOtherForm : List ℕ → Type 0
+IsOtherForm text = (m : Mapping) → BuiltReading text m → ⊥
+
+-- the text is of the form that runs
+abbrev pub IsRunningText : List ℕ → Type 0
+IsRunningText text = (m : Mapping) × BuiltReading text m
+
+-- what the text says where no line was mapped
+abbrev pub HaltSays : Halt → List ℕ → Type 0
+HaltSays (halt.Faulty fault at) text = HasMappingFault fault at text × IsOtherForm text
+HaltSays halt.NotBuilt text = IsMappingText text × IsOtherForm text
+HaltSays halt.NoSource text = IsRunningText text
+HaltSays halt.NoMemory text = Unit {0}
+
+-- what the text of the mapping says of the lines that were mapped, or of what kept the command from that
+abbrev pub TextSays : Result Pass Halt → List ℕ → Type 0
+TextSays (Ok pass) text = IsRunningText text
+TextSays (Err halt) text = HaltSays halt text
+
+abbrev pub fault_text : MappingFault → List ℕ
+fault_text faults.Character = codes "character"
+fault_text faults.Text = codes "text"
+fault_text faults.Number = codes "number"
+fault_text faults.Syntax = codes "syntax"
+fault_text faults.TooDeep = codes "too deep"
+
+-- the line of `err` of a fault, by its line and its column
+abbrev pub fault_line : MappingFault → ℕ → ℕ → List ℕ
+fault_line fault line column = codes "mapping: " ++ fault_text fault ++ codes " at line " ++ decimal line ++ codes " column " ++ decimal column
