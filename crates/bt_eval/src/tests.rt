@@ -5,6 +5,7 @@ ghost use Rattle.bt_syntax.specs.Built.{IsBuilt};
 
 use crate::{Mapped, Spot, content_fault, run_mapping};
 use bt_lexer::lex;
+use bt_patterns::Patterns;
 use bt_ports::blob::Blob;
 use bt_ports::text::Text;
 use bt_ready::Ready;
@@ -34,7 +35,10 @@ fn ready(alloc: Global, text: &str) -> Result<Ready, Fail>
 {
     let tokens = lex(alloc, text)?;
     match read_built(alloc, text, &tokens)? {
-        Some(mapping) => Ok(Ready { mapping }),
+        Some(mapping) => Ok(Ready {
+            mapping,
+            patterns: Patterns::new(alloc),
+        }),
         None => Err(Fail::from("not built")),
     }
 }

@@ -1,5 +1,5 @@
 -- The literal patterns of a mapping, in order of the text.
-use Rattle.std.specs.Prelude.{◌≡◌, ◌⊎◌, ℕ, List, [], ◌∷◌, flat_map, None}
+use Rattle.std.specs.Prelude.{◌≡◌, ◌⊎◌, ℕ, List, [], ◌∷◌, flat_map, None, is_some, true}
 use Rattle.bt_tree.specs.declared.tree.MapStmt.{MapStmt}
 use Rattle.bt_tree.specs.declared.tree.MapStmt.TheVariants as ms
 use Rattle.bt_tree.specs.declared.tree.Mapping.{Mapping}
@@ -42,12 +42,21 @@ abbrev pub texts : List Word → List (List ℕ)
 texts [] = []
 texts (w ∷ ws) = w.text ∷ texts ws
 
--- one of the literals stands at that place, and isn't read as a pattern
-abbrev pub OneIsBad : ℕ → List Word → Type 0
-OneIsBad at [] = ⊥
-OneIsBad at (w ∷ ws) = ((w.at ≡ at) × (pattern_of_text w.text ≡ None)) ⊎ OneIsBad at ws
+-- a literal that the grammar of patterns reads, and that doesn't nest too deeply
+abbrev pub IsRead : Word → Type 0
+IsRead w = is_some (pattern_of_text w.text) ≡ true
+
+-- each of the literals is read
+abbrev pub AllRead : List Word → Type 0
+AllRead [] = Unit {0}
+AllRead (w ∷ ws) = IsRead w × AllRead ws
+
+-- of the literals, the first that isn't read stands at that place
+abbrev pub FirstBad : ℕ → List Word → Type 0
+FirstBad at [] = ⊥
+FirstBad at (w ∷ ws) = ((w.at ≡ at) × (pattern_of_text w.text ≡ None)) ⊎ (IsRead w × FirstBad at ws)
 
 -- why patterns of these literals are refused; want of memory may come at any time
 abbrev pub IsRefused : List Word → PatternFault → Type 0
-IsRefused ws (fault.Bad at) = OneIsBad at ws
+IsRefused ws (fault.Bad at) = FirstBad at ws
 IsRefused ws fault.NoMemory = Unit {0}

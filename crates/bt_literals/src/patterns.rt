@@ -2,7 +2,7 @@
 
 ghost use Rattle.std.specs.Prelude.{◌≡◌, ◌++◌, [], ◌∷◌, IfOk, IfErr, OnOk};
 ghost use Rattle.bt_literals.specs.Literals as spec;
-ghost use Rattle.bt_literals.specs.Literals.{IsRefused};
+ghost use Rattle.bt_literals.specs.Literals.{AllRead, IsRead, IsRefused};
 
 use crate::found::mapping as find_in;
 use bt_findings::{Finding, Findings};
@@ -38,6 +38,7 @@ fn push(patterns: &mut Patterns, pattern: Pattern) -> Result<(), PatternFault>
 
 fn build_one(alloc: Global, patterns: &mut Patterns, word: &Word) -> Result<(), PatternFault>
     ensures ok { OnOk result (patterns.new.list ≡ patterns.old.list ++ word.now.text ∷ []) }
+    ensures read { OnOk result (IsRead word.now) }
     ensures err { IfErr result (λ e. IsRefused (word.now ∷ []) e) }
 {
     match Pattern::build(alloc, word.text.as_str()) {
@@ -54,6 +55,7 @@ fn build_all(
 ) -> Result<(), PatternFault>
     ensures ok { OnOk result (patterns.new.list
         ≡ patterns.old.list ++ spec.texts (spec.patterns_among findings.now)) }
+    ensures read { OnOk result (AllRead (spec.patterns_among findings.now)) }
     ensures err { IfErr result (λ e. IsRefused (spec.patterns_among findings.now) e) }
 {
     for finding in findings {
@@ -66,10 +68,11 @@ fn build_all(
 
 /// Builds each pattern of a mapping, in order of the text.
 ///
-/// `Bad` is answered only where a literal at that place isn't read as a pattern. The text of a pattern
-/// finds it again, by `found` of `bt_patterns`.
+/// `Bad` tells the place of the first literal that isn't read as a pattern. The text of a pattern finds
+/// it again, by `found` of `bt_patterns`.
 pub fn build_patterns(alloc: Global, mapping: &Mapping) -> Result<Patterns, PatternFault>
     ensures built { IfOk result (λ ps. ps.list ≡ spec.texts (spec.patterns mapping.now)) }
+    ensures read { IfOk result (λ ps. AllRead (spec.patterns mapping.now)) }
     ensures refused { IfErr result (λ e. IsRefused (spec.patterns mapping.now) e) }
 {
     let mut findings = Findings::new(alloc);
