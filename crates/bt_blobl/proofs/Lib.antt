@@ -1,5 +1,5 @@
-pub mod Faults
 pub mod Loop
+pub mod MappingFaults
 pub mod Tales
 pub mod Turns
 pub mod Whole

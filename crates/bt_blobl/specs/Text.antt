@@ -1,6 +1,8 @@
 -- What the text of a mapping says of `blobl`, and how its faults are told.
-use Rattle.std.specs.Prelude.{◌≡◌, ℕ, List, length, ◌++◌, None, codes, decimal, Result, Ok, Err}
+use Rattle.std.specs.Prelude.{◌≡◌, ℕ, List, length, min, ◌++◌, None, codes, decimal, Result, Ok, Err}
 use Rattle.bt_lexer.specs.Lines.{HasTokens, HasFault}
+use Rattle.bt_lexer.specs.Places.{line_of, column_of}
+use Rattle.bt_literals.specs.Literals.{AllRead, FirstBad, patterns}
 use Rattle.bt_lexer.specs.declared.token.LexFault.TheVariants as lexer
 use Rattle.bt_lexer.specs.declared.token.Token.{Token}
 use Rattle.bt_syntax.specs.Brackets.{deep_at}
@@ -29,9 +31,17 @@ HasMappingFault faults.Number at text = HasFault text (lexer.Number at)
 HasMappingFault faults.Syntax at text = IsRefused text (parser.Syntax at)
 HasMappingFault faults.TooDeep at text = IsRefused text (parser.TooDeep at)
 
--- the text is a mapping
+-- the text is this mapping
+abbrev pub IsTextOf : Mapping → List ℕ → Type 0
+IsTextOf m text = (ts : List Token) × HasTokens text ts × (deep_at 0 (lexemes text ts) ≡ None) × ReadsMapping m (lexemes text ts)
+
+-- the text is a mapping with these literal patterns, each of which is read
 abbrev pub IsMappingText : List ℕ → Type 0
-IsMappingText text = (ts : List Token) × HasTokens text ts × (deep_at 0 (lexemes text ts) ≡ None) × (m : Mapping) × ReadsMapping m (lexemes text ts)
+IsMappingText text = (m : Mapping) × IsTextOf m text × AllRead (patterns m)
+
+-- the text is a mapping, and the literal pattern at this place is its first that isn't read
+abbrev pub HasBadPattern : ℕ → List ℕ → Type 0
+HasBadPattern at text = (m : Mapping) × IsTextOf m text × FirstBad at (patterns m)
 
 -- it isn't of the form that runs
 abbrev pub IsOtherForm : List ℕ → Type 0
@@ -44,6 +54,7 @@ IsRunningText text = (m : Mapping) × BuiltReading text m
 -- what the text says where no line was mapped
 abbrev pub HaltSays : Halt → List ℕ → Type 0
 HaltSays (halt.Faulty fault at) text = HasMappingFault fault at text × IsOtherForm text
+HaltSays (halt.Pattern at) text = HasBadPattern at text × IsOtherForm text
 HaltSays halt.NotBuilt text = IsMappingText text × IsOtherForm text
 HaltSays halt.NoSource text = IsRunningText text
 HaltSays halt.NoMemory text = Unit {0}
@@ -60,6 +71,18 @@ fault_text faults.Number = codes "number"
 fault_text faults.Syntax = codes "syntax"
 fault_text faults.TooDeep = codes "too deep"
 
--- the line of `err` of a fault, by its line and its column
+-- a line of `err` on a mapping, by its line and its column
+abbrev pub placed_line : List ℕ → ℕ → ℕ → List ℕ
+placed_line said line column = codes "mapping: " ++ said ++ codes " at line " ++ decimal line ++ codes " column " ++ decimal column
+
+-- that of a fault
 abbrev pub fault_line : MappingFault → ℕ → ℕ → List ℕ
-fault_line fault line column = codes "mapping: " ++ fault_text fault ++ codes " at line " ++ decimal line ++ codes " column " ++ decimal column
+fault_line fault line column = placed_line (fault_text fault) line column
+
+-- that of a place in the text. One behind the text's end, which no mapping of the text has, counts as its end
+abbrev pub line_at : List ℕ → List ℕ → ℕ → List ℕ
+line_at said text at = placed_line said (line_of text (min at (length text))) (column_of text (min at (length text)))
+
+-- that of a pattern that isn't read
+abbrev pub pattern_line : List ℕ → ℕ → List ℕ
+pattern_line text at = line_at (codes "pattern") text at

@@ -3,7 +3,8 @@ ghost use Rattle.std.specs.Prelude.{◌≡◌, ℕ, ◌+◌, ◌≤◌, List, []
 ghost use Rattle.bt_intake.specs.Answers.{Standing};
 ghost use Rattle.bt_syntax.specs.Built.{BuiltReading, IsBuilt};
 ghost use Rattle.bt_tree.specs.declared.tree.Mapping.{Mapping};
-ghost use Rattle.bt_blobl.specs.Inside.{IsFreshInput, IsNoOpening, IsUnread, OpensInput, OpensNone, IsWithin, RefusalSays, TokensSay, lexer_halt, parser_halt};
+ghost use Rattle.bt_blobl.specs.Inside.{IsFreshInput, IsNoOpening, IsUnread, OpensInput, OpensNone, IsWithin, PatternsSay, RefusalSays, TokensSay, lexer_halt, parser_halt};
+ghost use Rattle.bt_literals.specs.Literals.{AllRead, patterns};
 ghost use Rattle.bt_blobl.specs.Promise.{BloblCounts, BloblPromise, BloblTells, HaltCounts, blobl_lines, blobl_status, halt_lines, halt_status, pass_status, stop_lines};
 ghost use Rattle.bt_blobl.specs.Text.{TextSays};
 ghost use Rattle.bt_lexer.specs.Lines.{HasTokens};
@@ -11,13 +12,15 @@ ghost use Rattle.bt_commands.specs.Calls.{source_opening};
 ghost use Rattle.bt_commands.specs.Outside.{SaysOnly, StillTold, over};
 
 use crate::course::{Halt, MappingFault, Pass, PassStop};
-use crate::faults::fault_line;
+use crate::faults::{fault_line, pattern_line};
 use crate::lines::map_lines;
 use bt_commands::limits::INPUT_BOUND;
 use bt_commands::lines::{bound_line, long_line};
 use bt_commands::status::Status;
 use bt_intake::intake::LineIntake;
 use bt_lexer::{LexFault, Tokens, lex, one_reading, place, spans_rise};
+use bt_literals::{PatternFault, ready};
+use bt_patterns::Patterns;
 use bt_ports::NoMemory;
 use bt_ports::outside::{Answerer, Clock, Sink, Source};
 use bt_ports::parts::{Named, Opened};
@@ -69,12 +72,28 @@ fn parser_halt(fault: SyntaxFault) -> Halt
 // Why a text of which these are the tokens doesn't run: the grammar refuses it, or it is of another form.
 fn refusal(alloc: Global, text: &str, tokens: &Tokens) -> Halt
     requires { HasTokens text.now tokens.now.list }
-    ensures { TokensSay result text.now tokens.now.list }
+    ensures { TokensSay result text.now }
 {
     spans_rise();
     match parse(alloc, text, tokens) {
-        Ok(_) => Halt::NotBuilt,
+        Ok(mapping) => match make_ready(alloc, mapping) {
+            Ok(_) => Halt::NotBuilt,
+            Err(halt) => halt,
+        },
         Err(fault) => parser_halt(fault),
+    }
+}
+
+// The mapping with its patterns, or which one isn't read.
+fn make_ready(alloc: Global, mapping: Mapping) -> Result<Ready, Halt>
+    ensures kept { IfOk result (λ r. r.mapping ≡ mapping) }
+    ensures read { IfOk result (λ r. AllRead (patterns mapping)) }
+    ensures refused { IfErr result (PatternsSay mapping) }
+{
+    match ready(alloc, mapping) {
+        Ok(ready) => Ok(ready),
+        Err((PatternFault::Bad { at }, _)) => Err(Halt::Pattern { at }),
+        Err((PatternFault::NoMemory, _)) => Err(Halt::NoMemory),
     }
 }
 
@@ -174,7 +193,14 @@ fn map_by<W: World>(alloc: Global, text: &str, world: &mut W) -> Result<Pass, Ha
     ensures went { IsTrue (W.tells world.new) → BloblTells ⟦<W::S as Source>⟧ text.now result [] (W.tells_printed world.new) (W.tells_lines world.new) (W.tale world.old) (W.tale world.new) }
 {
     match read_mapping(alloc, text) {
-        Ok(mapping) => map_stdin(alloc, &Ready { mapping }, world),
+        Ok(mapping) => map_stdin(
+            alloc,
+            &Ready {
+                mapping,
+                patterns: Patterns::new(alloc),
+            },
+            world,
+        ),
         Err(halt) => Err(halt),
     }
 }
@@ -202,6 +228,7 @@ fn say_halt<W: World>(halt: Halt, text: &str, world: &mut W)
         Halt::Faulty { fault, at } => {
             world.err(fault_line(fault, &place(text, at)).as_str().as_bytes())
         }
+        Halt::Pattern { at } => world.err(pattern_line(text, at).as_str().as_bytes()),
         Halt::NotBuilt => world.err(b"mapping: not built"),
         Halt::NoSource => world.err(b"source stdin: cannot open"),
         Halt::NoMemory => world.err(b"no memory"),
@@ -238,7 +265,7 @@ fn halt_status(halt: Halt) -> Status
     ensures { result ≡ halt_status halt }
 {
     match halt {
-        Halt::Faulty { .. } | Halt::NotBuilt => Status::Config,
+        Halt::Faulty { .. } | Halt::Pattern { .. } | Halt::NotBuilt => Status::Config,
         Halt::NoSource => Status::Input,
         Halt::NoMemory => Status::Memory,
     }

@@ -53,6 +53,11 @@ pub enum Halt {
         /// The place of the fault, in bytes from 0.
         at: usize,
     },
+    /// A literal pattern of the mapping isn't read as one.
+    Pattern {
+        /// The place of the literal, in bytes from 0.
+        at: usize,
+    },
     /// It is a mapping of a form that doesn't run yet.
     NotBuilt,
     /// The source couldn't be opened.

@@ -4,7 +4,7 @@ ghost use Rattle.bt_blobl.specs.Text as mapping;
 
 use crate::course::MappingFault;
 use bt_commands::lines::{Line, push_number};
-use bt_lexer::Place;
+use bt_lexer::{Place, place};
 
 // What is said of a mapping's fault.
 fn fault_text(fault: MappingFault) -> &'static str
@@ -24,9 +24,24 @@ fn fault_text(fault: MappingFault) -> &'static str
 pub(crate) fn fault_line(fault: MappingFault, place: &Place) -> Line
     ensures { result.bytes ≡ mapping.fault_line fault place.now.line place.now.column }
 {
+    placed_line(fault_text(fault), place)
+}
+
+/// `mapping: pattern at line L column C`, of a place in the text of a mapping.
+pub(crate) fn pattern_line(text: &str, at: usize) -> Line
+    ensures { result.bytes ≡ mapping.pattern_line text.now at }
+{
+    placed_line("pattern", &place(text, at.min(text.len())))
+}
+
+// `mapping: TEXT at line L column C`, of a short text.
+fn placed_line(text: &'static str, place: &Place) -> Line
+    requires { length text.now ≤ 20 }
+    ensures { result.bytes ≡ mapping.placed_line text.now place.now.line place.now.column }
+{
     let mut line = Line::new();
     line.push_str("mapping: ");
-    line.push_str(fault_text(fault));
+    line.push_str(text);
     line.push_str(" at line ");
     push_number(&mut line, place.line);
     line.push_str(" column ");

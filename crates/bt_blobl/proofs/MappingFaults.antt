@@ -5,14 +5,15 @@ use Rattle.bt_lexer.specs.Spans.{AreSpans, IsFaultWithin}
 use Rattle.bt_lexer.specs.declared.token.LexFault.{LexFault}
 use Rattle.bt_lexer.specs.declared.token.LexFault.TheVariants as lexer
 use Rattle.bt_lexer.specs.declared.token.Token.{Token}
+use Rattle.bt_tree.specs.declared.tree.Mapping.{Mapping}
 use Rattle.bt_syntax.specs.Brackets.{deep_at, opens, step, max_open}
 use Rattle.bt_syntax.specs.Grammar.{ReadsMapping}
 use Rattle.bt_syntax.specs.Lexemes.{Lexemes, lexemes}
 use Rattle.bt_syntax.specs.Places.{Refuses, place_of}
 use Rattle.bt_syntax.specs.declared.fault.SyntaxFault.{SyntaxFault}
 use Rattle.bt_syntax.specs.declared.fault.SyntaxFault.TheVariants as parser
-use Rattle.bt_blobl.specs.Inside.{IsUnread, IsWithin, RefusalSays, TokensSay, lexer_halt, parser_halt}
-use Rattle.bt_blobl.specs.Text.{IsOtherForm}
+use Rattle.bt_blobl.specs.Inside.{IsUnread, IsWithin, PatternsSay, RefusalSays, TokensSay, lexer_halt, parser_halt}
+use Rattle.bt_blobl.specs.Text.{IsOtherForm, IsTextOf}
 use Rattle.bt_blobl.specs.declared.course.Halt.{Halt}
 use Rattle.bt_blobl.specs.declared.course.Halt.TheVariants as halt
 
@@ -39,7 +40,7 @@ deep-within n d [] at all e = cc
 deep-within n d (t ∷ ts) at all e = one-within (opens t.kind && nat_eq d max_open) t.at at n (deep_at (step d t.kind) ts) all.0 (deep-within n (step d t.kind) ts at all.1) e
 
 -- the grammar refuses the tokens of a text
-pub says-refused : (text : List ℕ) (ts : List Token) (f : SyntaxFault) → HasTokens text ts → AreSpans text 0 ts → Refuses ReadsMapping (lexemes text ts) (length text) f → TokensSay (parser_halt f) text ts
+pub says-refused : (text : List ℕ) (ts : List Token) (f : SyntaxFault) → HasTokens text ts → AreSpans text 0 ts → Refuses ReadsMapping (lexemes text ts) (length text) f → TokensSay (parser_halt f) text
 says-refused text ts (parser.Syntax at) has spans refuses =
     let bad = refuses.2 in
     let all : AreWithin (length text) (bad.u ++ refuses.1) = subst (AreWithin (length text)) bad.whole (tokens-within text 0 ts spans) in
@@ -47,6 +48,14 @@ says-refused text ts (parser.Syntax at) has spans refuses =
     ((ts, has, refuses), omega (arith, inside, refuses.3))
 says-refused text ts (parser.TooDeep at) has spans refuses = ((ts, has, refuses), deep-within (length text) 0 (lexemes text ts) at (tokens-within text 0 ts spans) refuses)
 says-refused text ts parser.NoMemory has spans refuses = tt
+
+-- the grammar reads them
+pub says-patterns : (text : List ℕ) (m : Mapping) (h : Halt) → IsTextOf m text → PatternsSay m h → TokensSay h text
+says-patterns text m (halt.Faulty fault at) reads says = absurd says
+says-patterns text m (halt.Pattern at) reads says = (m, reads, says)
+says-patterns text m halt.NotBuilt reads says = absurd says
+says-patterns text m halt.NoSource reads says = absurd says
+says-patterns text m halt.NoMemory reads says = tt
 
 -- a text without tokens
 pub says-lexed : (text : List ℕ) (f : LexFault) → ((s : List ℕ) (ts : List Token) (g : LexFault) → HasTokens s ts → HasFault s g → ⊥) → (f ≢ lexer.NoMemory → HasFault text f) → RefusalSays (lexer_halt f) text
@@ -68,21 +77,24 @@ lexed-unread (lexer.Number at) = tt
 lexed-unread lexer.NoMemory = tt
 
 -- a text of another form
-module _ (text : List ℕ) (ts : List Token) where
-  pub says-other : (h : Halt) → TokensSay h text ts → IsOtherForm text → RefusalSays h text
+module _ (text : List ℕ) where
+  pub says-other : (h : Halt) → TokensSay h text → IsOtherForm text → RefusalSays h text
   says-other (halt.Faulty fault at) says other = (says.0, other)
+  says-other (halt.Pattern at) says other = (says, other)
   says-other halt.NotBuilt says other = (says, other)
   says-other halt.NoSource says other = absurd says
   says-other halt.NoMemory says other = tt
 
-  pub other-within : (h : Halt) → TokensSay h text ts → IsWithin h text
+  pub other-within : (h : Halt) → TokensSay h text → IsWithin h text
   other-within (halt.Faulty fault at) says = says.1
+  other-within (halt.Pattern at) says = tt
   other-within halt.NotBuilt says = tt
   other-within halt.NoSource says = absurd says
   other-within halt.NoMemory says = tt
 
-  pub other-unread : (h : Halt) → TokensSay h text ts → IsUnread h
+  pub other-unread : (h : Halt) → TokensSay h text → IsUnread h
   other-unread (halt.Faulty fault at) says = tt
+  other-unread (halt.Pattern at) says = tt
   other-unread halt.NotBuilt says = tt
   other-unread halt.NoSource says = absurd says
   other-unread halt.NoMemory says = tt
