@@ -1,0 +1,4 @@
+//! The methods of the mapping language on instants, in UTC.
+#![tactic(auto)]
+
+pub mod times;

@@ -1,0 +1,5 @@
+pub mod Addings
+pub mod Leading
+pub mod Members
+pub mod Orders
+pub mod Reaching

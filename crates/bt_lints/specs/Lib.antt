@@ -1,0 +1,5 @@
+pub mod Adding
+pub mod Lints
+pub mod Names
+pub mod Order
+pub mod Told

@@ -1,0 +1,4 @@
+//! The methods of the mapping language with patterns.
+#![tactic(auto)]
+
+pub mod patterns;
