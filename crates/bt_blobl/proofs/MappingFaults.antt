@@ -12,8 +12,8 @@ use Rattle.bt_syntax.specs.Lexemes.{Lexemes, lexemes}
 use Rattle.bt_syntax.specs.Places.{Refuses, place_of}
 use Rattle.bt_syntax.specs.declared.fault.SyntaxFault.{SyntaxFault}
 use Rattle.bt_syntax.specs.declared.fault.SyntaxFault.TheVariants as parser
-use Rattle.bt_blobl.specs.Inside.{IsUnread, IsWithin, PatternsSay, RefusalSays, TokensSay, lexer_halt, parser_halt}
-use Rattle.bt_blobl.specs.Text.{IsOtherForm, IsTextOf}
+use Rattle.bt_blobl.specs.Inside.{IsUnread, IsWithin, LintsSay, MappingSays, PatternsSay, RefusalSays, TokensSay, lexer_halt, parser_halt}
+use Rattle.bt_blobl.specs.Text.{HasNoLints, IsOtherForm, IsTextOf}
 use Rattle.bt_blobl.specs.declared.course.Halt.{Halt}
 use Rattle.bt_blobl.specs.declared.course.Halt.TheVariants as halt
 
@@ -50,12 +50,30 @@ says-refused text ts (parser.TooDeep at) has spans refuses = ((ts, has, refuses)
 says-refused text ts parser.NoMemory has spans refuses = tt
 
 -- the grammar reads them
-pub says-patterns : (text : List ℕ) (m : Mapping) (h : Halt) → IsTextOf m text → PatternsSay m h → TokensSay h text
-says-patterns text m (halt.Faulty fault at) reads says = absurd says
-says-patterns text m (halt.Pattern at) reads says = (m, reads, says)
-says-patterns text m halt.NotBuilt reads says = absurd says
-says-patterns text m halt.NoSource reads says = absurd says
-says-patterns text m halt.NoMemory reads says = tt
+pub says-mapping : (text : List ℕ) (m : Mapping) (h : Halt) → IsTextOf m text → MappingSays m h → TokensSay h text
+says-mapping text m (halt.Faulty fault at) reads says = absurd says
+says-mapping text m (halt.Lints lints) reads says = (m, reads, says)
+says-mapping text m (halt.Pattern at) reads says = (m, reads, says.0, says.1)
+says-mapping text m halt.NotBuilt reads says = (m, reads, says.0, says.1)
+says-mapping text m halt.NoSource reads says = absurd says
+says-mapping text m halt.NoMemory reads says = tt
+
+-- what its lints and its patterns say, together
+pub says-lints : (m : Mapping) (h : Halt) → LintsSay m h → MappingSays m h
+says-lints m (halt.Faulty fault at) says = absurd says
+says-lints m (halt.Lints lints) says = says
+says-lints m (halt.Pattern at) says = absurd says
+says-lints m halt.NotBuilt says = absurd says
+says-lints m halt.NoSource says = absurd says
+says-lints m halt.NoMemory says = tt
+
+pub says-patterns : (m : Mapping) (h : Halt) → HasNoLints m → PatternsSay m h → MappingSays m h
+says-patterns m (halt.Faulty fault at) none says = absurd says
+says-patterns m (halt.Lints lints) none says = absurd says
+says-patterns m (halt.Pattern at) none says = (none, says)
+says-patterns m halt.NotBuilt none says = (none, says)
+says-patterns m halt.NoSource none says = absurd says
+says-patterns m halt.NoMemory none says = tt
 
 -- a text without tokens
 pub says-lexed : (text : List ℕ) (f : LexFault) → ((s : List ℕ) (ts : List Token) (g : LexFault) → HasTokens s ts → HasFault s g → ⊥) → (f ≢ lexer.NoMemory → HasFault text f) → RefusalSays (lexer_halt f) text
@@ -80,6 +98,7 @@ lexed-unread lexer.NoMemory = tt
 module _ (text : List ℕ) where
   pub says-other : (h : Halt) → TokensSay h text → IsOtherForm text → RefusalSays h text
   says-other (halt.Faulty fault at) says other = (says.0, other)
+  says-other (halt.Lints lints) says other = (says, other)
   says-other (halt.Pattern at) says other = (says, other)
   says-other halt.NotBuilt says other = (says, other)
   says-other halt.NoSource says other = absurd says
@@ -87,6 +106,7 @@ module _ (text : List ℕ) where
 
   pub other-within : (h : Halt) → TokensSay h text → IsWithin h text
   other-within (halt.Faulty fault at) says = says.1
+  other-within (halt.Lints lints) says = tt
   other-within (halt.Pattern at) says = tt
   other-within halt.NotBuilt says = tt
   other-within halt.NoSource says = absurd says
@@ -94,6 +114,7 @@ module _ (text : List ℕ) where
 
   pub other-unread : (h : Halt) → TokensSay h text → IsUnread h
   other-unread (halt.Faulty fault at) says = tt
+  other-unread (halt.Lints lints) says = tt
   other-unread (halt.Pattern at) says = tt
   other-unread halt.NotBuilt says = tt
   other-unread halt.NoSource says = absurd says

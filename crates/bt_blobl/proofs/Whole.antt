@@ -187,6 +187,7 @@ module _ {S E : Type 0} (gs : Source.Ghosts S) (text : List ℕ) where
     where
       unread-part : (h : Halt) → IsUnread h → IsHaltPart h []
       unread-part (halt.Faulty fault at) none = refl
+      unread-part (halt.Lints lints) none = refl
       unread-part (halt.Pattern at) none = refl
       unread-part halt.NotBuilt none = refl
       unread-part halt.NoSource none = absurd none

@@ -6,7 +6,7 @@ use Rattle.bt_lexer.specs.declared.token.Token.{Token}
 use Rattle.bt_syntax.specs.declared.fault.SyntaxFault.{SyntaxFault}
 use Rattle.bt_syntax.specs.declared.fault.SyntaxFault.TheVariants as parser
 use Rattle.bt_tree.specs.declared.tree.Mapping.{Mapping}
-use Rattle.bt_literals.specs.Literals.{FirstBad, patterns}
+use Rattle.bt_literals.specs.Literals.{AllRead, FirstBad, patterns}
 use Rattle.bt_blobl.specs.declared.course.Halt.{Halt}
 use Rattle.bt_blobl.specs.declared.course.Halt.TheVariants as halt
 use Rattle.bt_blobl.specs.declared.course.MappingFault.TheVariants as faults
@@ -26,12 +26,13 @@ use Rattle.bt_ports.specs.declared.parts.Asked.{Asked}
 use Rattle.bt_commands.specs.declared.limits.TheConstants.{INPUT_BOUND}
 use Rattle.bt_commands.specs.Calls.{source_opening, failed}
 use Rattle.bt_blobl.specs.Meaning.{line_bytes, outcome, printed_of, error_of, fails, blobl_text, blobl_errors, some_fail}
-use Rattle.bt_blobl.specs.Text.{HasBadPattern, HasMappingFault, IsMappingText, IsOtherForm}
+use Rattle.bt_blobl.specs.Text.{HasBadPattern, HasLints, HasMappingFault, HasNoLints, IsLintedText, IsMappingText, IsOtherForm}
 use Rattle.bt_blobl.specs.Promise.{PrefixIs, IsHaltPart}
 
 -- a fault stands inside the text, or at its end
 abbrev pub IsWithin : Halt → List ℕ → Type 0
 IsWithin (halt.Faulty fault at) text = at ≤ length text
+IsWithin (halt.Lints lints) text = Unit {0}
 IsWithin (halt.Pattern at) text = Unit {0}
 IsWithin halt.NotBuilt text = Unit {0}
 IsWithin halt.NoSource text = Unit {0}
@@ -53,6 +54,7 @@ parser_halt parser.NoMemory = halt.NoMemory
 -- what the tokens of a text say of a refusal of it
 abbrev pub TokensSay : Halt → List ℕ → Type 0
 TokensSay (halt.Faulty fault at) text = HasMappingFault fault at text × (at ≤ length text)
+TokensSay (halt.Lints lints) text = IsLintedText lints.list text
 TokensSay (halt.Pattern at) text = HasBadPattern at text
 TokensSay halt.NotBuilt text = IsMappingText text
 TokensSay halt.NoSource text = ⊥
@@ -61,14 +63,34 @@ TokensSay halt.NoMemory text = Unit {0}
 -- what a mapping's patterns say of a refusal of it
 abbrev pub PatternsSay : Mapping → Halt → Type 0
 PatternsSay m (halt.Faulty fault at) = ⊥
+PatternsSay m (halt.Lints lints) = ⊥
 PatternsSay m (halt.Pattern at) = FirstBad at (patterns m)
-PatternsSay m halt.NotBuilt = ⊥
+PatternsSay m halt.NotBuilt = AllRead (patterns m)
 PatternsSay m halt.NoSource = ⊥
 PatternsSay m halt.NoMemory = Unit {0}
+
+-- what its lints say
+abbrev pub LintsSay : Mapping → Halt → Type 0
+LintsSay m (halt.Faulty fault at) = ⊥
+LintsSay m (halt.Lints lints) = HasLints m lints.list
+LintsSay m (halt.Pattern at) = ⊥
+LintsSay m halt.NotBuilt = ⊥
+LintsSay m halt.NoSource = ⊥
+LintsSay m halt.NoMemory = Unit {0}
+
+-- what a mapping of another form says
+abbrev pub MappingSays : Mapping → Halt → Type 0
+MappingSays m (halt.Faulty fault at) = ⊥
+MappingSays m (halt.Lints lints) = HasLints m lints.list
+MappingSays m (halt.Pattern at) = HasNoLints m × FirstBad at (patterns m)
+MappingSays m halt.NotBuilt = HasNoLints m × AllRead (patterns m)
+MappingSays m halt.NoSource = ⊥
+MappingSays m halt.NoMemory = Unit {0}
 
 -- what the text says of a refusal of it
 abbrev pub RefusalSays : Halt → List ℕ → Type 0
 RefusalSays (halt.Faulty fault at) text = HasMappingFault fault at text × IsOtherForm text
+RefusalSays (halt.Lints lints) text = IsLintedText lints.list text × IsOtherForm text
 RefusalSays (halt.Pattern at) text = HasBadPattern at text × IsOtherForm text
 RefusalSays halt.NotBuilt text = IsMappingText text × IsOtherForm text
 RefusalSays halt.NoSource text = ⊥
@@ -185,6 +207,7 @@ TurnResult gs m n (Err stop) i j tells prints says a b = LinesHalted gs m stop i
 -- no line can be read: the opening failed, or memory was wanting
 abbrev pub IsNoOpening : Halt → Type 0
 IsNoOpening (halt.Faulty fault at) = ⊥
+IsNoOpening (halt.Lints lints) = ⊥
 IsNoOpening (halt.Pattern at) = ⊥
 IsNoOpening halt.NotBuilt = ⊥
 IsNoOpening halt.NoSource = Unit {0}
@@ -232,6 +255,7 @@ LineFaults (Err stop) before after = PassFaults stop before after
 -- why there is no mapping that runs
 abbrev pub IsUnread : Halt → Type 0
 IsUnread (halt.Faulty fault at) = Unit {0}
+IsUnread (halt.Lints lints) = Unit {0}
 IsUnread (halt.Pattern at) = Unit {0}
 IsUnread halt.NotBuilt = Unit {0}
 IsUnread halt.NoSource = ⊥

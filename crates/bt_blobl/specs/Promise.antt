@@ -1,5 +1,5 @@
 -- What `blobl` promises.
-use Rattle.std.specs.Prelude.{◌≡◌, ℕ, ◌+◌, List, [], ◌++◌, length, take, slice_get, Bool, IsTrue, Some, ◌≤◌, if◌then◌else◌, ◌∷◌, None, codes, Result, Ok, Err}
+use Rattle.std.specs.Prelude.{◌≡◌, ℕ, ◌+◌, List, [], ◌++◌, length, take, slice_get, Bool, IsTrue, Some, ◌≤◌, if◌then◌else◌, ◌∷◌, None, map, codes, Result, Ok, Err}
 use Rattle.bt_ports.specs.World.{Tale, once_more}
 use Rattle.bt_ports.specs.declared.outside.Source as Source
 use Rattle.bt_intake.specs.Lines.{batches, stop}
@@ -25,7 +25,7 @@ use Rattle.bt_blobl.specs.declared.course.Halt.TheVariants as halt
 use Rattle.bt_commands.specs.declared.status.Status.{Status}
 use Rattle.bt_commands.specs.declared.status.Status.TheVariants as status
 use Rattle.bt_blobl.specs.Meaning.{lines_of, outcome, printed_of, blobl_text, blobl_errors, some_fail}
-use Rattle.bt_blobl.specs.Text.{TextSays, fault_line, pattern_line}
+use Rattle.bt_blobl.specs.Text.{TextSays, fault_line, line_at, lint_line}
 
 -- what is left of an outcome that wasn't printed whole: a prefix of it, where the print failed
 abbrev pub PrefixIs : PassStop → LineResult → List ℕ → Type 0
@@ -48,6 +48,7 @@ pass_status stops.NoMemory fault = status.Memory
 -- the status where no line was mapped
 abbrev pub halt_status : Halt → Status
 halt_status (halt.Faulty fault at) = status.Config
+halt_status (halt.Lints lints) = status.Config
 halt_status (halt.Pattern at) = status.Config
 halt_status halt.NotBuilt = status.Config
 halt_status halt.NoSource = status.Input
@@ -70,7 +71,8 @@ stop_lines stops.NoMemory = no_memory_line ∷ []
 -- the line of `err` on what kept the command from mapping lines
 abbrev pub halt_lines : Halt → List ℕ → List (List ℕ)
 halt_lines (halt.Faulty fault at) text = fault_line fault (line_of text at) (column_of text at) ∷ []
-halt_lines (halt.Pattern at) text = pattern_line text at ∷ []
+halt_lines (halt.Lints lints) text = map (lint_line text) lints.list
+halt_lines (halt.Pattern at) text = line_at (codes "pattern") text at ∷ []
 halt_lines halt.NotBuilt text = codes "mapping: not built" ∷ []
 halt_lines halt.NoSource text = codes "source stdin: cannot open" ∷ []
 halt_lines halt.NoMemory text = no_memory_line ∷ []
@@ -84,6 +86,7 @@ blobl_lines (Err halt) text = halt_lines halt text
 -- mapping isn't one that runs
 abbrev pub IsHaltPart : Halt → List Asked → Type 0
 IsHaltPart (halt.Faulty fault at) part = part ≡ []
+IsHaltPart (halt.Lints lints) part = part ≡ []
 IsHaltPart (halt.Pattern at) part = part ≡ []
 IsHaltPart halt.NotBuilt part = part ≡ []
 IsHaltPart halt.NoSource part = part ≡ failed source_opening ∷ []
@@ -97,6 +100,7 @@ IsBloblPart (Err halt) part = IsHaltPart halt part
 -- the opening failed only where the count of open faults rose: before and after
 abbrev pub HaltCounts : Halt → ℕ → ℕ → Type 0
 HaltCounts (halt.Faulty fault at) opens opens' = Unit {0}
+HaltCounts (halt.Lints lints) opens opens' = Unit {0}
 HaltCounts (halt.Pattern at) opens opens' = Unit {0}
 HaltCounts halt.NotBuilt opens opens' = Unit {0}
 HaltCounts halt.NoSource opens opens' = Rose opens opens'

@@ -1,7 +1,13 @@
 -- What the text of a mapping says of `blobl`, and how its faults are told.
-use Rattle.std.specs.Prelude.{◌≡◌, ℕ, List, length, min, ◌++◌, None, codes, decimal, Result, Ok, Err}
+use Rattle.std.specs.Prelude.{◌≡◌, ◌↔◌, ℕ, ◌≤◌, List, length, min, ◌++◌, None, Contains, codes, decimal, Result, Ok, Err}
 use Rattle.bt_lexer.specs.Lines.{HasTokens, HasFault}
 use Rattle.bt_lexer.specs.Places.{line_of, column_of}
+use Rattle.std.specs.List.Sorted.{IsStrictlySortedBy}
+use Rattle.bt_lints.specs.Lints.{IsLint}
+use Rattle.bt_lints.specs.Order.{by_place}
+use Rattle.bt_lints.specs.Told.{kind_text}
+use Rattle.bt_lints.specs.declared.lint.MapLint.{MapLint}
+use Rattle.bt_lints.specs.declared.lint.Use.TheVariants as usage
 use Rattle.bt_literals.specs.Literals.{AllRead, FirstBad, patterns}
 use Rattle.bt_lexer.specs.declared.token.LexFault.TheVariants as lexer
 use Rattle.bt_lexer.specs.declared.token.Token.{Token}
@@ -35,13 +41,27 @@ HasMappingFault faults.TooDeep at text = IsRefused text (parser.TooDeep at)
 abbrev pub IsTextOf : Mapping → List ℕ → Type 0
 IsTextOf m text = (ts : List Token) × HasTokens text ts × (deep_at 0 (lexemes text ts) ≡ None) × ReadsMapping m (lexemes text ts)
 
--- the text is a mapping with these literal patterns, each of which is read
-abbrev pub IsMappingText : List ℕ → Type 0
-IsMappingText text = (m : Mapping) × IsTextOf m text × AllRead (patterns m)
+-- a mapping has no lint
+abbrev pub HasNoLints : Mapping → Type 0
+HasNoLints m = (x : MapLint) → IsLint m usage.Mapping x → ⊥
 
--- the text is a mapping, and the literal pattern at this place is its first that isn't read
+-- a mapping has these lints and no other; they stand in order of place, and at one place in order of kind
+pub record HasLints (m : Mapping) (lints : List MapLint) : Type 0 where
+  pub some : 1 ≤ length lints
+  pub all : (x : MapLint) → Contains lints x ↔ IsLint m usage.Mapping x
+  pub in_order : IsStrictlySortedBy by_place lints
+
+-- the text is a mapping without lints, each of whose literal patterns is read
+abbrev pub IsMappingText : List ℕ → Type 0
+IsMappingText text = (m : Mapping) × IsTextOf m text × HasNoLints m × AllRead (patterns m)
+
+-- the text is a mapping with these lints
+abbrev pub IsLintedText : List MapLint → List ℕ → Type 0
+IsLintedText lints text = (m : Mapping) × IsTextOf m text × HasLints m lints
+
+-- the text is a mapping without lints, and the literal pattern at this place is its first that isn't read
 abbrev pub HasBadPattern : ℕ → List ℕ → Type 0
-HasBadPattern at text = (m : Mapping) × IsTextOf m text × FirstBad at (patterns m)
+HasBadPattern at text = (m : Mapping) × IsTextOf m text × HasNoLints m × FirstBad at (patterns m)
 
 -- it isn't of the form that runs
 abbrev pub IsOtherForm : List ℕ → Type 0
@@ -54,6 +74,7 @@ IsRunningText text = (m : Mapping) × BuiltReading text m
 -- what the text says where no line was mapped
 abbrev pub HaltSays : Halt → List ℕ → Type 0
 HaltSays (halt.Faulty fault at) text = HasMappingFault fault at text × IsOtherForm text
+HaltSays (halt.Lints lints) text = IsLintedText lints.list text × IsOtherForm text
 HaltSays (halt.Pattern at) text = HasBadPattern at text × IsOtherForm text
 HaltSays halt.NotBuilt text = IsMappingText text × IsOtherForm text
 HaltSays halt.NoSource text = IsRunningText text
@@ -83,6 +104,6 @@ fault_line fault line column = placed_line (fault_text fault) line column
 abbrev pub line_at : List ℕ → List ℕ → ℕ → List ℕ
 line_at said text at = placed_line said (line_of text (min at (length text))) (column_of text (min at (length text)))
 
--- that of a pattern that isn't read
-abbrev pub pattern_line : List ℕ → ℕ → List ℕ
-pattern_line text at = line_at (codes "pattern") text at
+-- that of a lint
+abbrev pub lint_line : List ℕ → MapLint → List ℕ
+lint_line text l = line_at (kind_text l.kind) text l.at

@@ -1,24 +1,24 @@
 //! The command `blobl`.
-ghost use Rattle.std.specs.Prelude.{◌≡◌, ℕ, ◌+◌, ◌≤◌, List, [], ◌∷◌, ◌++◌, length, None, IfOk, IfErr, IfSome, OnOk, IsTrue, true, false};
+ghost use Rattle.std.specs.Prelude.{◌≡◌, ℕ, ◌+◌, ◌≤◌, List, [], ◌∷◌, ◌++◌, length, None, IfOk, IfErr, IfSome, MatchOption, OnOk, IsTrue, map, true, false};
 ghost use Rattle.bt_intake.specs.Answers.{Standing};
 ghost use Rattle.bt_syntax.specs.Built.{BuiltReading, IsBuilt};
 ghost use Rattle.bt_tree.specs.declared.tree.Mapping.{Mapping};
-ghost use Rattle.bt_blobl.specs.Inside.{IsFreshInput, IsNoOpening, IsUnread, OpensInput, OpensNone, IsWithin, PatternsSay, RefusalSays, TokensSay, lexer_halt, parser_halt};
-ghost use Rattle.bt_literals.specs.Literals.{AllRead, patterns};
+ghost use Rattle.bt_blobl.specs.Inside.{IsFreshInput, IsNoOpening, IsUnread, OpensInput, OpensNone, IsWithin, LintsSay, MappingSays, PatternsSay, RefusalSays, TokensSay, lexer_halt, parser_halt};
 ghost use Rattle.bt_blobl.specs.Promise.{BloblCounts, BloblPromise, BloblTells, HaltCounts, blobl_lines, blobl_status, halt_lines, halt_status, pass_status, stop_lines};
-ghost use Rattle.bt_blobl.specs.Text.{TextSays};
+ghost use Rattle.bt_blobl.specs.Text.{HasNoLints, TextSays, lint_line};
 ghost use Rattle.bt_lexer.specs.Lines.{HasTokens};
 ghost use Rattle.bt_commands.specs.Calls.{source_opening};
 ghost use Rattle.bt_commands.specs.Outside.{SaysOnly, StillTold, over};
 
 use crate::course::{Halt, MappingFault, Pass, PassStop};
-use crate::faults::{fault_line, pattern_line};
+use crate::faults::{fault_line, line_at};
 use crate::lines::map_lines;
 use bt_commands::limits::INPUT_BOUND;
 use bt_commands::lines::{bound_line, long_line};
 use bt_commands::status::Status;
 use bt_intake::intake::LineIntake;
 use bt_lexer::{LexFault, Tokens, lex, one_reading, place, spans_rise};
+use bt_lints::{MapLint, Use, lint_mapping};
 use bt_literals::{PatternFault, ready};
 use bt_patterns::Patterns;
 use bt_ports::NoMemory;
@@ -76,24 +76,40 @@ fn refusal(alloc: Global, text: &str, tokens: &Tokens) -> Halt
 {
     spans_rise();
     match parse(alloc, text, tokens) {
-        Ok(mapping) => match make_ready(alloc, mapping) {
-            Ok(_) => Halt::NotBuilt,
-            Err(halt) => halt,
-        },
+        Ok(mapping) => other_form(alloc, mapping),
         Err(fault) => parser_halt(fault),
     }
 }
 
-// The mapping with its patterns, or which one isn't read.
-fn make_ready(alloc: Global, mapping: Mapping) -> Result<Ready, Halt>
-    ensures kept { IfOk result (λ r. r.mapping ≡ mapping) }
-    ensures read { IfOk result (λ r. AllRead (patterns mapping)) }
-    ensures refused { IfErr result (PatternsSay mapping) }
+// Why a mapping without lints doesn't run: a pattern isn't read, or it is of another form.
+fn pattern_halt(alloc: Global, mapping: Mapping) -> Halt
+    ensures { PatternsSay mapping result }
 {
     match ready(alloc, mapping) {
-        Ok(ready) => Ok(ready),
-        Err((PatternFault::Bad { at }, _)) => Err(Halt::Pattern { at }),
-        Err((PatternFault::NoMemory, _)) => Err(Halt::NoMemory),
+        Ok(_) => Halt::NotBuilt,
+        Err((PatternFault::Bad { at }, _)) => Halt::Pattern { at },
+        Err((PatternFault::NoMemory, _)) => Halt::NoMemory,
+    }
+}
+
+// The lints of a mapping, where it has any.
+fn lint_halt(alloc: Global, mapping: &Mapping) -> Option<Halt>
+    ensures { MatchOption result (HasNoLints mapping.now) (LintsSay mapping.now) }
+{
+    match lint_mapping(alloc, mapping, Use::Mapping) {
+        Ok(lints) if lints.len() == 0 => None,
+        Ok(lints) => Some(Halt::Lints(lints)),
+        Err(NoMemory) => Some(Halt::NoMemory),
+    }
+}
+
+// Why a mapping that isn't of the form that runs doesn't.
+fn other_form(alloc: Global, mapping: Mapping) -> Halt
+    ensures { MappingSays mapping result }
+{
+    match lint_halt(alloc, &mapping) {
+        Some(halt) => halt,
+        None => pattern_halt(alloc, mapping),
     }
 }
 
@@ -219,16 +235,33 @@ fn say_stop<W: World>(stop: PassStop, world: &mut W)
     }
 }
 
+// Says a lint.
+fn say_lint<W: World>(lint: &MapLint, text: &str, world: &mut W)
+    ensures { SaysOnly ⟦<W as World>⟧ (lint_line text.now lint.now ∷ []) world.old world.new }
+{
+    world.err(line_at(lint.kind.text(), text, lint.at).as_str().as_bytes());
+}
+
+// Says lints, one after another.
+fn say_lints<W: World>(lints: &[MapLint], text: &str, world: &mut W)
+    ensures { SaysOnly ⟦<W as World>⟧ (map (lint_line text.now) lints.now) world.old world.new }
+{
+    for lint in lints {
+        say_lint(lint, text, world);
+    }
+}
+
 // Says what kept the command from mapping lines.
-fn say_halt<W: World>(halt: Halt, text: &str, world: &mut W)
-    requires { IsWithin halt text.now }
-    ensures { SaysOnly ⟦<W as World>⟧ (halt_lines halt text.now) world.old world.new }
+fn say_halt<W: World>(halt: &Halt, text: &str, world: &mut W)
+    requires { IsWithin halt.now text.now }
+    ensures { SaysOnly ⟦<W as World>⟧ (halt_lines halt.now text.now) world.old world.new }
 {
     match halt {
         Halt::Faulty { fault, at } => {
-            world.err(fault_line(fault, &place(text, at)).as_str().as_bytes())
+            world.err(fault_line(*fault, &place(text, *at)).as_str().as_bytes())
         }
-        Halt::Pattern { at } => world.err(pattern_line(text, at).as_str().as_bytes()),
+        Halt::Lints(lints) => say_lints(lints.as_slice(), text, world),
+        Halt::Pattern { at } => world.err(line_at("pattern", text, *at).as_str().as_bytes()),
         Halt::NotBuilt => world.err(b"mapping: not built"),
         Halt::NoSource => world.err(b"source stdin: cannot open"),
         Halt::NoMemory => world.err(b"no memory"),
@@ -236,9 +269,9 @@ fn say_halt<W: World>(halt: Halt, text: &str, world: &mut W)
 }
 
 // Says the line of the command's own fault, where it has one.
-fn say_end<W: World>(pass: Result<Pass, Halt>, text: &str, world: &mut W)
-    requires { IfErr pass (λ halt. IsWithin halt text.now) }
-    ensures { SaysOnly ⟦<W as World>⟧ (blobl_lines pass text.now) world.old world.new }
+fn say_end<W: World>(pass: &Result<Pass, Halt>, text: &str, world: &mut W)
+    requires { IfErr pass.now (λ halt. IsWithin halt text.now) }
+    ensures { SaysOnly ⟦<W as World>⟧ (blobl_lines pass.now text.now) world.old world.new }
 {
     match pass {
         Ok(pass) => say_stop(pass.stop, world),
@@ -261,22 +294,24 @@ fn pass_status(pass: &Pass) -> Status
 }
 
 // The status where no line was mapped.
-fn halt_status(halt: Halt) -> Status
-    ensures { result ≡ halt_status halt }
+fn halt_status(halt: &Halt) -> Status
+    ensures { result ≡ halt_status halt.now }
 {
     match halt {
-        Halt::Faulty { .. } | Halt::Pattern { .. } | Halt::NotBuilt => Status::Config,
+        Halt::Faulty { .. } | Halt::Lints(_) | Halt::Pattern { .. } | Halt::NotBuilt => {
+            Status::Config
+        }
         Halt::NoSource => Status::Input,
         Halt::NoMemory => Status::Memory,
     }
 }
 
 // The status of the command.
-fn blobl_status(pass: Result<Pass, Halt>) -> Status
-    ensures { result ≡ blobl_status pass }
+fn blobl_status(pass: &Result<Pass, Halt>) -> Status
+    ensures { result ≡ blobl_status pass.now }
 {
     match pass {
-        Ok(pass) => pass_status(&pass),
+        Ok(pass) => pass_status(pass),
         Err(halt) => halt_status(halt),
     }
 }
@@ -300,6 +335,6 @@ pub fn blobl_command<W: World>(
     ensures { BloblPromise (over ⟦<W as World>⟧ ⟦<W::S as Source>⟧ ⟦<W::K as Sink>⟧ ⟦<W::A as Answerer>⟧ ⟦<W::C as Clock>⟧) mapping.now result world.old world.new }
 {
     let pass = map_by(alloc, mapping, world);
-    say_end(pass, mapping, world);
-    blobl_status(pass)
+    say_end(&pass, mapping, world);
+    blobl_status(&pass)
 }

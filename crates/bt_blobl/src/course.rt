@@ -1,4 +1,5 @@
 //! How far the command `blobl` came, and what becomes of a line.
+use bt_lints::MapLints;
 use bt_ports::blob::Blob;
 use bt_ports::text::Text;
 
@@ -44,7 +45,7 @@ pub enum MappingFault {
 }
 
 /// What kept the command from mapping lines.
-#[derive(Clone, Copy, Debug, PartialEq, Eq)]
+#[derive(Drop)]
 pub enum Halt {
     /// The text is no mapping.
     Faulty {
@@ -53,6 +54,8 @@ pub enum Halt {
         /// The place of the fault, in bytes from 0.
         at: usize,
     },
+    /// The mapping has these lints.
+    Lints(MapLints),
     /// A literal pattern of the mapping isn't read as one.
     Pattern {
         /// The place of the literal, in bytes from 0.

@@ -27,11 +27,12 @@ pub(crate) fn fault_line(fault: MappingFault, place: &Place) -> Line
     placed_line(fault_text(fault), place)
 }
 
-/// `mapping: pattern at line L column C`, of a place in the text of a mapping.
-pub(crate) fn pattern_line(text: &str, at: usize) -> Line
-    ensures { result.bytes ≡ mapping.pattern_line text.now at }
+/// `mapping: TEXT at line L column C`, of a short text, and of a place in the text of a mapping.
+pub(crate) fn line_at(said: &'static str, text: &str, at: usize) -> Line
+    requires { length said.now ≤ 20 }
+    ensures { result.bytes ≡ mapping.line_at said.now text.now at }
 {
-    placed_line("pattern", &place(text, at.min(text.len())))
+    placed_line(said, &place(text, at.min(text.len())))
 }
 
 // `mapping: TEXT at line L column C`, of a short text.
