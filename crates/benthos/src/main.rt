@@ -14,7 +14,7 @@ mod world;
 use bt_ports::NoMemory;
 use bt_ports::world::World;
 use bt_top::command::benthos;
-use bt_top::status::Status;
+use bt_commands::status::Status;
 use std::process::ExitCode;
 use words::words;
 use world::RealWorld;

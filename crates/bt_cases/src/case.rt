@@ -10,7 +10,7 @@ use bt_ports::parts::Calls;
 use bt_ports::sequence::Sequence;
 use bt_ports::text::Text;
 use bt_top::command::benthos;
-use bt_top::status::Status;
+use bt_commands::status::Status;
 use std::alloc::{AllocError, Global};
 
 /// A case, by the fields of its line. A field that is missing is empty, and a number that can't be read is 0.

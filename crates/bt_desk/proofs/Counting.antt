@@ -7,7 +7,7 @@ use Rattle.bt_ports.specs.declared.parts.AnswerCall.{AnswerCall}
 use Rattle.bt_ports.specs.declared.parts.Verdict.TheVariants.{Ack, Refused}
 use Rattle.bt_ports.specs.declared.parts.Cause.TheVariants.{SinkFault}
 use Rattle.bt_desk.specs.History.{Numbered, Settled, item_of, was_accepted, was_refused, has_failed_answer, answer_with, verdict_of, accepted_records, refused_records, answers}
-use Rattle.bt_desk.specs.Outcome.{is_ack, acknowledges, refuses, has_failed}
+use Rattle.bt_desk.specs.Finished.{is_ack, acknowledges, refuses, has_failed}
 use Rattle.bt_desk.proofs.Histories.{settled_record}
 
 count_by-cons : {X : Type 0} (p : X → Bool) (x : X) (xs : List X) → count_by p (x ∷ xs) ≡ cond (p x) 1 0 + count_by p xs

@@ -10,7 +10,7 @@ use Rattle.bt_desk.specs.declared.report.Report.{Report}
 use Rattle.bt_desk.specs.DeskView.{DeskView, run_of}
 use Rattle.bt_desk.specs.History.{Settled, numbered, records_of, acks_of, was_accepted, was_refused, has_failed_answer}
 use Rattle.bt_desk.specs.Stands.{StandsWith}
-use Rattle.bt_desk.specs.Outcome.{Rises, IsClean, Counts, acknowledges, refuses, has_failed, RecordsRise, CallsRise}
+use Rattle.bt_desk.specs.Finished.{Rises, IsClean, Counts, acknowledges, refuses, has_failed, RecordsRise, CallsRise}
 use Rattle.bt_desk.proofs.Clean.{accepted-clean, refused-clean, answered-clean}
 use Rattle.bt_desk.proofs.Counting.{accepted-counted, refused-counted, acknowledged-counted, others-counted, failed-counted}
 use Rattle.bt_desk.proofs.Rising.{accepted-rise, refused-rise, answers-rise}

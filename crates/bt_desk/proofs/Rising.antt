@@ -4,7 +4,7 @@ use Rattle.std.specs.Prelude.{All, AllPairs, filter}
 use Rattle.std.proofs.lemmas.List.Elements.{All-append, All-map, All-cons}
 use Rattle.std.proofs.lemmas.List.Kept.{AllPairs-cons, AllPairs-filter}
 use Rattle.bt_desk.specs.History.{Numbered, Settled, numbered_items, numbered_from, numbered, was_accepted, was_refused, accepted_records, refused_records, answers, record_of, item_of, answer_with, verdict_of}
-use Rattle.bt_desk.specs.Outcome.{IsBefore, IsRecordBefore, IsCallBefore, RecordsRise, CallsRise}
+use Rattle.bt_desk.specs.Finished.{IsBefore, IsRecordBefore, IsCallBefore, RecordsRise, CallsRise}
 
 module _ {X : Type 0} (R : X → X → Type 0) where
   pairs_head : (x : X) (xs : List X) → AllPairs R (x ∷ xs) → All (R x) xs

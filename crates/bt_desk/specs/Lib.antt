@@ -1,7 +1,7 @@
 pub mod Calls
 pub mod DeskView
+pub mod Finished
 pub mod History
 pub mod Inside
-pub mod Outcome
 pub mod Settles
 pub mod Stands

@@ -73,7 +73,7 @@ fn answer_of(ending: Ending) -> Admit
 impl<I: Intake, K: Sink, A: Answerer, C: Clock> Desk<I, K, A, C> {
     ghost use Rattle.bt_desk.specs.Stands.{Stands};
     ghost use Rattle.bt_desk.specs.History.{Settled};
-    ghost use Rattle.bt_desk.specs.Outcome.{Counts, Rises, IsClean};
+    ghost use Rattle.bt_desk.specs.Finished.{Counts, Rises, IsClean};
     ghost use Rattle.bt_desk.specs.Calls.{IsUnwritten, IsUnanswered, IsUnread, Begins, SameRun, IsOut, Admits, AdmitFaults, OnlyAdmits, Delivers};
 
     /// A desk over these parts, on which nothing was taken. It reserves the room for the transaction that is out.

@@ -9,7 +9,7 @@ use bt_ports::parts::{Cause, Item, Sinks, Verdict};
 
 /// What became of an item: whether its record was accepted, and whether its answer failed.
 #[derive(Clone, Copy)]
-struct Outcome {
+struct ItemResult {
     accepted: bool,
     answer_failed: bool,
 }
@@ -22,7 +22,7 @@ fn settle_item<K: Sink, A: Answerer>(
     number: u64,
     part: u32,
     item: &Item,
-) -> Outcome
+) -> ItemResult
     ensures puts { Puts ⟦<K as Sink>⟧ sink.old sink.new (one_item number part item.now result.accepted result.answer_failed ∷ []) }
     ensures answers { Answers ⟦<A as Answerer>⟧ answerer.old answerer.new (one_item number part item.now result.accepted result.answer_failed ∷ []) }
 {
@@ -36,14 +36,14 @@ fn settle_item<K: Sink, A: Answerer>(
     let answer_failed = answerer
         .answer(number, u64::from(part), &verdict, b"")
         .is_err();
-    Outcome {
+    ItemResult {
         accepted,
         answer_failed,
     }
 }
 
 /// Counts what became of an item.
-fn count_item(report: &mut Report, outcome: Outcome)
+fn count_item(report: &mut Report, outcome: ItemResult)
     requires acked { report.old.acked < 2 ^ 63 }
     requires refused { report.old.refused < 2 ^ 63 }
     requires answer_faults { report.old.answer_faults < 2 ^ 63 }

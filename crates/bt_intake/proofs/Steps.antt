@@ -14,7 +14,7 @@ use Rattle.bt_intake.specs.Lines.{is_line_feed, batches, item}
 use Rattle.bt_intake.specs.Progress.{HasNoFeed, FeedAt, Follows}
 use Rattle.bt_intake.specs.Sources.{all_tell, told, taken_count, SourcesKept, Ended}
 use Rattle.bt_intake.specs.Reading.{ReadsAt}
-use Rattle.bt_intake.specs.Reader.{pending, uncut, rest, Stands, MakesItem, GivesBatch}
+use Rattle.bt_intake.specs.Reader.{pending, uncut, rest, ReaderHolds, MakesItem, GivesBatch}
 use Rattle.bt_intake.proofs.Buffers.{pending_length, behind_pending}
 use Rattle.bt_intake.proofs.Cuts.{get-dropped, follows-read}
 use Rattle.bt_intake.proofs.SourceLists.{tell-at, kept-slice_set, kept-length, tell-kept, told-kept, taken-slice_set, get-slice_set}
@@ -28,7 +28,7 @@ more_than_dropped n xs x later e = omega (arith, ap length e, length-drop n xs)
 split_at_feed : (bytes : List ℕ) (n : ℕ) → FeedAt bytes n → bytes ≡ take n bytes ++ 10 ∷ drop (n + 1) bytes
 split_at_feed bytes n f = sym (take-append-drop n bytes) ∙ ap (λ x. take n bytes ++ x) f.feed
 
-module _ {S : Type 0} (g : Source.Ghosts S) (s : LineReader S) (stands : Stands g s) where
+module _ {S : Type 0} (g : Source.Ghosts S) (s : LineReader S) (stands : ReaderHolds g s) where
   length-pending : length (pending s) ≡ s.to - s.from
   length-pending = pending_length s.buffer.items s.from s.to stands.ordered stands.inside
 
@@ -57,7 +57,7 @@ module _ {S : Type 0} (g : Source.Ghosts S) (s : LineReader S) (stands : Stands 
     line_leaves : (t : LineReader S) → t.piece.items ≡ [] → t.piece.items ++ drop (s.from + (n + 1)) (take s.to s.buffer.items) ≡ drop (n + 1) (pending s)
     line_leaves t emptied = ap (λ x. x ++ drop (s.from + (n + 1)) (take s.to s.buffer.items)) emptied ∙ behind_pending s.buffer.items s.from s.to (n + 1)
 
-    line_stands : (t : LineReader S) → t.piece.items ≡ [] → Stands g (record s { piece = t.piece; from = s.from + (n + 1); given = s.given + 1 })
+    line_stands : (t : LineReader S) → t.piece.items ≡ [] → ReaderHolds g (record s { piece = t.piece; from = s.from + (n + 1); given = s.given + 1 })
     line_stands t emptied =
         let here : s.at < length s.sources.list = feed_at_hand in
         let (m, at) = get-inside s.sources.list s.at here in
@@ -77,8 +77,8 @@ module _ {S : Type 0} (g : Source.Ghosts S) (s : LineReader S) (stands : Stands 
               (rest-line g (told g s.sources.list) s.given s.taken s.sources.list s.at m at (uncut s) _ (drop (n + 1) (pending s)) line_uncut line_clear (stands.follows q));
         }
 
-    pub stands-line : (t : LineReader S) → t ≡ record s { piece = t.piece } → t.piece.items ≡ [] → Stands g (record t { from = t.from + (n + 1); given = t.given + 1 })
-    stands-line t same emptied = subst (λ u. Stands g (record u { from = u.from + (n + 1); given = u.given + 1 })) (sym same) (line_stands t emptied)
+    pub stands-line : (t : LineReader S) → t ≡ record s { piece = t.piece } → t.piece.items ≡ [] → ReaderHolds g (record t { from = t.from + (n + 1); given = t.given + 1 })
+    stands-line t same emptied = subst (λ u. ReaderHolds g (record u { from = u.from + (n + 1); given = u.given + 1 })) (sym same) (line_stands t emptied)
 
     pub gives-line : (t : LineReader S) (items : Contents Item) → t ≡ record s { piece = t.piece } → MakesItem s (s.piece.items ++ take n (pending s)) items → GivesBatch g s (record t { from = t.from + (n + 1); given = t.given + 1 }) items
     gives-line t items same makes = subst (λ u. GivesBatch g s (record u { from = u.from + (n + 1); given = u.given + 1 }) items) (sym same) (record {
@@ -88,7 +88,7 @@ module _ {S : Type 0} (g : Source.Ghosts S) (s : LineReader S) (stands : Stands 
     })
 
   -- the bytes of the buffer were kept as the begin of a line
-  pub stands-kept_rest : (t : LineReader S) → t.piece.items ≡ s.piece.items ++ pending s → HasNoFeed (pending s) → Stands g (record s { piece = t.piece; from = s.to })
+  pub stands-kept_rest : (t : LineReader S) → t.piece.items ≡ s.piece.items ++ pending s → HasNoFeed (pending s) → ReaderHolds g (record s { piece = t.piece; from = s.to })
   stands-kept_rest t kept clear =
       let none : drop s.to (take s.to s.buffer.items) ≡ [] = drop_all s.to (take s.to s.buffer.items) (omega (arith, length-take s.to s.buffer.items)) in
       let same : t.piece.items ++ drop s.to (take s.to s.buffer.items) ≡ uncut s = ap (λ x. t.piece.items ++ x) none ∙ append-nil t.piece.items ∙ kept in
@@ -108,7 +108,7 @@ module _ {S : Type 0} (g : Source.Ghosts S) (s : LineReader S) (stands : Stands 
       }
 
   -- a source that ended was passed
-  pub stands-passed : s.at < length s.sources.list → uncut s ≡ [] → (IsTrue (all_tell g s.sources.list) → Ended g s.sources.list s.at) → Stands g (record s { at = s.at + 1 })
+  pub stands-passed : s.at < length s.sources.list → uncut s ≡ [] → (IsTrue (all_tell g s.sources.list) → Ended g s.sources.list s.at) → ReaderHolds g (record s { at = s.at + 1 })
   stands-passed here empty ended = record {
     ordered = stands.ordered;
     inside = stands.inside;
@@ -146,7 +146,7 @@ module _ {S : Type 0} (g : Source.Ghosts S) (s : LineReader S) (stands : Stands 
     last_leaves : (t : LineReader S) → t.piece.items ≡ [] → t.piece.items ++ pending s ≡ []
     last_leaves t emptied = ap (λ x. x ++ pending s) emptied ∙ empty
 
-    last_stands : (t : LineReader S) → t.piece.items ≡ [] → Stands g (record s { piece = t.piece; at = s.at + 1; given = s.given + 1 })
+    last_stands : (t : LineReader S) → t.piece.items ≡ [] → ReaderHolds g (record s { piece = t.piece; at = s.at + 1; given = s.given + 1 })
     last_stands t emptied =
         let (m, at) = get-inside s.sources.list s.at here in
         record {
@@ -167,8 +167,8 @@ module _ {S : Type 0} (g : Source.Ghosts S) (s : LineReader S) (stands : Stands 
               (rest-last g (told g s.sources.list) s.given s.taken s.sources.list s.at e.at_hand e.found s.piece.items stands.clear some e.none_left (piece_follows q));
         }
 
-    pub stands-last : (t : LineReader S) → t ≡ record s { piece = t.piece } → t.piece.items ≡ [] → Stands g (record t { at = t.at + 1; given = t.given + 1 })
-    stands-last t same emptied = subst (λ u. Stands g (record u { at = u.at + 1; given = u.given + 1 })) (sym same) (last_stands t emptied)
+    pub stands-last : (t : LineReader S) → t ≡ record s { piece = t.piece } → t.piece.items ≡ [] → ReaderHolds g (record t { at = t.at + 1; given = t.given + 1 })
+    stands-last t same emptied = subst (λ u. ReaderHolds g (record u { at = u.at + 1; given = u.given + 1 })) (sym same) (last_stands t emptied)
 
     pub gives-last : (t : LineReader S) (items : Contents Item) → t ≡ record s { piece = t.piece } → MakesItem s (s.piece.items ++ take 0 (pending s)) items → GivesBatch g s (record t { at = t.at + 1; given = t.given + 1 }) items
     gives-last t items same makes = subst (λ u. GivesBatch g s (record u { at = u.at + 1; given = u.given + 1 }) items) (sym same) (record {
@@ -177,7 +177,7 @@ module _ {S : Type 0} (g : Source.Ghosts S) (s : LineReader S) (stands : Stands 
       next = λ q. get-dropped s.given _ _ _ (last_next makes.at_hand makes.found q).1 ∙ ap (λ b. Some (item makes.at_hand.path b ∷ [])) (sym (append-nil s.piece.items)) ∙ ap Some (sym makes.made);
     })
 
-module _ {S : Type 0} (g : Source.Ghosts S) (s : LineReader S) (stands : Stands g s) (empty : pending s ≡ []) where
+module _ {S : Type 0} (g : Source.Ghosts S) (s : LineReader S) (stands : ReaderHolds g s) (empty : pending s ≡ []) where
   none_pending : s.from ≡ s.to
   none_pending = omega (arith, length-pending g s stands, ap length empty, stands.ordered)
 
@@ -213,7 +213,7 @@ module _ {S : Type 0} (g : Source.Ghosts S) (s : LineReader S) (stands : Stands 
           ∙ ap (λ b. rest g b (drop s.at (slice_set s.sources.list s.at here.new))) (sym (append-nil (uncut s)))
           ∙ rest-read g s.sources.list s.at here.old here.new (uncut s) [] here.was here.reads.kept.path l
 
-      pub stands-quiet : Stands g (record s { sources = t.sources; buffer = t.buffer })
+      pub stands-quiet : ReaderHolds g (record s { sources = t.sources; buffer = t.buffer })
       stands-quiet = record {
         ordered = stands.ordered;
         inside = omega (arith, stands.inside, as_long);
@@ -253,7 +253,7 @@ module _ {S : Type 0} (g : Source.Ghosts S) (s : LineReader S) (stands : Stands 
           ap (λ ns. rest g (uncut s ++ take n t.buffer.items) (drop s.at ns)) here.is
           ∙ rest-read g s.sources.list s.at here.old here.new (uncut s) (take n t.buffer.items) here.was here.reads.kept.path l
 
-      pub stands-more : s.at < length s.sources.list → Stands g (record s { sources = t.sources; buffer = t.buffer; from = 0; to = n; taken = s.taken + n })
+      pub stands-more : s.at < length s.sources.list → ReaderHolds g (record s { sources = t.sources; buffer = t.buffer; from = 0; to = n; taken = s.taken + n })
       stands-more inside = record {
         ordered = omega arith;
         inside = omega (arith, fits, within_size, as_long);

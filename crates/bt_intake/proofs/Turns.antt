@@ -11,7 +11,7 @@ use Rattle.bt_intake.specs.Lines.{byte_count, batches, stop}
 use Rattle.bt_intake.specs.Progress.{HasNoFeed, Follows}
 use Rattle.bt_intake.specs.Sources.{all_tell, told, SourcesKept}
 use Rattle.bt_intake.specs.Answers.{ReadsLate}
-use Rattle.bt_intake.specs.Reader.{pending, uncut, rest, Stands, Goes, SaysOf, Answers}
+use Rattle.bt_intake.specs.Reader.{pending, uncut, rest, ReaderHolds, Goes, SaysOf, Answers}
 use Rattle.bt_intake.proofs.Cuts.{dropped_all, none_left, stops-end, stops-bound}
 use Rattle.bt_intake.proofs.SourceLists.{sources_kept-same, sources_kept-then, tell-kept, told-kept, rose-kept}
 use Rattle.bt_intake.proofs.Rests.{get-inside, left, rest-at, rest-none_closed}
@@ -87,7 +87,7 @@ module _ {S : Type 0} (g : Source.Ghosts S) where
   answers-ends next.Bound s t a b q = same_stop s t a q ∙ b.1.1 q
   answers-ends next.NoMemory s t a b q = tt
 
-  module _ (s : LineReader S) (stands : Stands g s) (empty : pending s ≡ []) where
+  module _ (s : LineReader S) (stands : ReaderHolds g s) (empty : pending s ≡ []) where
     clear_uncut : HasNoFeed (uncut s)
     clear_uncut = subst HasNoFeed (sym (ap (λ x. s.piece.items ++ x) empty ∙ append-nil s.piece.items)) stands.clear
 

@@ -30,7 +30,7 @@ rest g bytes [] = []
 rest g bytes (n ∷ ns) = source n.path (bytes ++ drop (g.taken n.source) (g.bytes n.source)) ∷ rest g [] ns
 
 -- what holds of the reader before and after each step
-pub record Stands {S : Type 0} (g : Source.Ghosts S) (s : LineReader S) : Type 0 where
+pub record ReaderHolds {S : Type 0} (g : Source.Ghosts S) (s : LineReader S) : Type 0 where
   pub ordered : s.from ≤ s.to
   pub inside : s.to ≤ length s.buffer.items
   pub size : length s.buffer.items ≡ 4096

@@ -5,7 +5,6 @@ ghost use Rattle.bt_intake.specs.Progress.{HasNoFeed, FeedAt};
 
 use bt_ports::NoMemory;
 use bt_ports::blob::Blob;
-use bt_ports::text::Text;
 use memchr::memchr;
 use std::alloc::Global;
 use std::mem;
@@ -45,14 +44,4 @@ pub(crate) fn take_line(alloc: Global, piece: &mut Vec<u8>, last: &[u8]) -> Resu
         line.pop();
     }
     Ok(Blob::from_vec(line))
-}
-
-/// A copy of a source's path.
-pub(crate) fn copy_path(alloc: Global, path: &Option<Text>) -> Result<Option<Text>, NoMemory>
-    ensures { IfOk result (λ copy. copy ≡ path.now) }
-{
-    match path {
-        Some(text) => Ok(Some(Text::make(alloc, text.as_str())?)),
-        None => Ok(None),
-    }
 }

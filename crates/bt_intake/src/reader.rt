@@ -1,17 +1,18 @@
 //! The sources of an intake, and how far they are read and cut.
-ghost use Rattle.std.specs.Prelude.{◌≡◌, ℕ, ◌+◌, ◌^◌, ◌<◌, ◌≤◌, [], ◌++◌, length, take, IfOk, IfErr, OnOk, OnErr, MatchOption, IsTrue};
+ghost use Rattle.std.specs.Prelude.{◌≡◌, ℕ, ◌+◌, ◌^◌, ◌<◌, ◌≤◌, [], ◌++◌, length, take, slice_get, IfOk, IfErr, IfSome, OnOk, OnErr, MatchOption, IsTrue};
 ghost use Rattle.std.specs.List.{All};
 ghost use Rattle.bt_intake.specs.Progress.{HasNoFeed, FeedAt};
-ghost use Rattle.bt_intake.specs.Reader.{pending, uncut, Stands, MakesItem, Gives, ReadsMore, Goes, Steps, StepFaults, Answers, answer_of};
+ghost use Rattle.bt_intake.specs.Reader.{pending, uncut, ReaderHolds, MakesItem, Gives, ReadsMore, Goes, Steps, StepFaults, Answers, answer_of};
 ghost use Rattle.bt_intake.specs.Sources.{all_tell, fault_count, SourcesKept, Ended};
 ghost use Rattle.bt_ports.specs.Intake.{NextFaults};
 ghost use Rattle.bt_ports.specs.Source.{ReadFaults};
 
-use crate::line::{copy_path, first_line_feed, take_line};
+use crate::line::{first_line_feed, take_line};
 use crate::reading::{Readable, read_front};
 use bt_ports::NoMemory;
 use bt_ports::parts::{Item, Items, Next, Read, Sources};
 use bt_ports::sequence::Sequence;
+use bt_ports::text::Text;
 use std::alloc::Global;
 
 /// How many bytes a read takes at most.
@@ -44,7 +45,7 @@ impl<S: Readable> LineReader<S> {
     ) -> Result<LineReader<S>, (NoMemory, Sources<S>)>
         requires bound_fits { bound ≤ 2 ^ 48 }
         requires untaken { IsTrue (all_tell S.shown sources.list) → All (λ n. S.shown.taken n.source ≡ 0) sources.list }
-        ensures stands { IfOk result (λ r. Stands S.shown r) }
+        ensures stands { IfOk result (λ r. ReaderHolds S.shown r) }
         ensures ok { IfOk result (λ r. (r.sources ≡ sources) × (r.bound ≡ bound) × (r.taken ≡ 0) × (r.given ≡ 0)) }
         ensures err { IfErr result (λ e. e.1 ≡ sources) }
     {
@@ -87,15 +88,26 @@ impl<S: Readable> LineReader<S> {
 
     /// The place, from the first byte that isn't cut, of the first line feed in the buffer.
     fn first_line_feed(&self) -> Option<usize>
-        requires { Stands S.shown self.now }
+        requires { ReaderHolds S.shown self.now }
         ensures { MatchOption result (HasNoFeed (pending self.now)) (λ n. FeedAt (pending self.now) n) }
     {
         first_line_feed(&self.buffer[self.from..self.to])
     }
 
+    /// The path of the source at hand.
+    fn path(&self) -> Result<Option<Text>, NoMemory>
+        requires { self.now.at < length self.now.sources.list }
+        ensures { IfOk result (λ path. IfSome (slice_get self.now.sources.list self.now.at) (λ named. path ≡ named.path)) }
+    {
+        match &self.sources.as_slice()[self.at].path {
+            Some(path) => Ok(Some(Text::make(self.alloc, path.as_str())?)),
+            None => Ok(None),
+        }
+    }
+
     /// A batch of the line that ends before the n-th byte of the buffer that isn't cut.
     fn make_batch(&mut self, n: usize) -> Result<Items, NoMemory>
-        requires stands { Stands S.shown self.old }
+        requires stands { ReaderHolds S.shown self.old }
         requires here { self.old.at < length self.old.sources.list }
         requires inside { n ≤ length (pending self.old) }
         ensures same { self.new ≡ record self.old { piece = self.new.piece } }
@@ -105,7 +117,7 @@ impl<S: Readable> LineReader<S> {
     {
         let mut items = Sequence::new(self.alloc);
         items.reserve(1)?;
-        let path = copy_path(self.alloc, &self.sources.as_slice()[self.at].path)?;
+        let path = self.path()?;
         let last = &self.buffer[self.from..self.from + n];
         let bytes = take_line(self.alloc, &mut self.piece, last)?;
         items.push_reserved(Item { bytes, path });
@@ -114,9 +126,9 @@ impl<S: Readable> LineReader<S> {
 
     /// Gives the line that the line feed at place n of the bytes that aren't cut ends.
     fn give_line(&mut self, n: usize) -> Result<Items, NoMemory>
-        requires stands { Stands S.shown self.old }
+        requires stands { ReaderHolds S.shown self.old }
         requires feed { FeedAt (pending self.old) n }
-        ensures stands { Stands S.shown self.new }
+        ensures stands { ReaderHolds S.shown self.new }
         ensures same { (self.new.sources ≡ self.old.sources) × (self.new.bound ≡ self.old.bound) × (self.new.taken ≡ self.old.taken) }
         ensures gives { Gives S.shown result self.old self.new }
     {
@@ -128,14 +140,14 @@ impl<S: Readable> LineReader<S> {
 
     /// Gives the last piece of a source that ended, and passes that source.
     fn give_last(&mut self) -> Result<Items, NoMemory>
-        requires stands { Stands S.shown self.old }
+        requires stands { ReaderHolds S.shown self.old }
         requires here { self.old.at < length self.old.sources.list }
         requires fits { self.old.at + 1 < 2 ^ 64 }
         requires empty { pending self.old ≡ [] }
         requires some { 1 ≤ length self.old.piece.items }
         requires room { self.old.taken < self.old.bound }
         requires ended { IsTrue (all_tell S.shown self.old.sources.list) → Ended S.shown self.old.sources.list self.old.at }
-        ensures stands { Stands S.shown self.new }
+        ensures stands { ReaderHolds S.shown self.new }
         ensures same { (self.new.sources ≡ self.old.sources) × (self.new.bound ≡ self.old.bound) × (self.new.taken ≡ self.old.taken) }
         ensures gives { Gives S.shown result self.old self.new }
     {
@@ -147,9 +159,9 @@ impl<S: Readable> LineReader<S> {
 
     /// Keeps the bytes of the buffer that aren't cut as the begin of a line.
     fn keep_rest(&mut self) -> Result<(), NoMemory>
-        requires stands { Stands S.shown self.old }
+        requires stands { ReaderHolds S.shown self.old }
         requires clear { HasNoFeed (pending self.old) }
-        ensures stands { Stands S.shown self.new }
+        ensures stands { ReaderHolds S.shown self.new }
         ensures same { self.new ≡ record self.old { piece = self.new.piece; from = self.new.from } }
         ensures emptied { OnOk result (pending self.new ≡ []) }
     {
@@ -166,11 +178,11 @@ impl<S: Readable> LineReader<S> {
 
     /// Reads more of the source at hand: as much as the buffer takes, and no more than the bound leaves.
     fn read_more(&mut self) -> Read
-        requires stands { Stands S.shown self.old }
+        requires stands { ReaderHolds S.shown self.old }
         requires here { self.old.at < length self.old.sources.list }
         requires empty { pending self.old ≡ [] }
         requires room { self.old.taken < self.old.bound }
-        ensures stands { Stands S.shown self.new }
+        ensures stands { ReaderHolds S.shown self.new }
         ensures kept { SourcesKept S.shown self.old.sources.list self.new.sources.list }
         ensures same { (self.new.bound ≡ self.old.bound) × (self.new.given ≡ self.old.given) × (self.new.at ≡ self.old.at) × (self.new.piece ≡ self.old.piece) }
         ensures reads { ReadsMore S.shown result self.old self.new }
@@ -191,12 +203,12 @@ impl<S: Readable> LineReader<S> {
 
     /// Passes a source that ended.
     fn pass_source(&mut self)
-        requires stands { Stands S.shown self.old }
+        requires stands { ReaderHolds S.shown self.old }
         requires here { self.old.at < length self.old.sources.list }
         requires fits { self.old.at + 1 < 2 ^ 64 }
         requires empty { uncut self.old ≡ [] }
         requires ended { IsTrue (all_tell S.shown self.old.sources.list) → Ended S.shown self.old.sources.list self.old.at }
-        ensures stands { Stands S.shown self.new }
+        ensures stands { ReaderHolds S.shown self.new }
         ensures same { self.new ≡ record self.old { at = self.old.at + 1 } }
     {
         self.at += 1;
@@ -204,12 +216,12 @@ impl<S: Readable> LineReader<S> {
 
     /// Reads once: the step where no line waits, room is left and there is a source at hand.
     fn read_step(&mut self) -> Option<Next>
-        requires stands { Stands S.shown self.old }
+        requires stands { ReaderHolds S.shown self.old }
         requires here { self.old.at < length self.old.sources.list }
         requires fits { self.old.at + 1 < 2 ^ 64 }
         requires empty { pending self.old ≡ [] }
         requires room { self.old.taken < self.old.bound }
-        ensures stands { Stands S.shown self.new }
+        ensures stands { ReaderHolds S.shown self.new }
         ensures goes { Goes S.shown self.old self.new }
         ensures steps { Steps S.shown result self.old self.new }
         ensures faults { StepFaults result (fault_count S.shown self.old.sources.list) (fault_count S.shown self.new.sources.list) }
@@ -230,8 +242,8 @@ impl<S: Readable> LineReader<S> {
 
     /// One step towards the next answer.
     fn step(&mut self) -> Option<Next>
-        requires stands { Stands S.shown self.old }
-        ensures stands { Stands S.shown self.new }
+        requires stands { ReaderHolds S.shown self.old }
+        ensures stands { ReaderHolds S.shown self.new }
         ensures goes { Goes S.shown self.old self.new }
         ensures steps { Steps S.shown result self.old self.new }
         ensures faults { StepFaults result (fault_count S.shown self.old.sources.list) (fault_count S.shown self.new.sources.list) }
@@ -254,8 +266,8 @@ impl<S: Readable> LineReader<S> {
 
     /// The next answer.
     pub(crate) fn next(&mut self) -> Next
-        requires stands { Stands S.shown self.old }
-        ensures stands { Stands S.shown self.new }
+        requires stands { ReaderHolds S.shown self.old }
+        ensures stands { ReaderHolds S.shown self.new }
         ensures goes { Goes S.shown self.old self.new }
         ensures answers { Answers S.shown result self.old self.new }
         ensures faults { NextFaults result (fault_count S.shown self.old.sources.list) (fault_count S.shown self.new.sources.list) }

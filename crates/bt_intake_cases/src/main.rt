@@ -3,19 +3,20 @@
 //! A case is a line of the standard input: named fields with a semicolon between. `sources` are the sources' bytes with a
 //! comma between, each behind its path and a colon where it has one; in them a bar stands for a line feed and a caret for
 //! a carriage return. `piece` is how many bytes a read gives at most, `fail` the number, counted from 1, of each source's
-//! read that fails, and `bound` the bytes that are taken at most. What the intake gives is printed behind the line: each
-//! item behind its path, in brackets, and the answer other than a batch.
+//! read that fails, and `bound` the bytes that are taken at most; `fill` bytes more stand at each source's front. What the
+//! intake gives is printed behind the line: each item behind its path, in brackets, one of more than 40 bytes by its
+//! length, and the answer other than a batch. With `sizes` the lengths of the buffers that were read into stand behind it.
 #![tactic(auto)]
 
-ghost use Rattle.std.specs.Prelude.{◌≡◌, ◌≤◌, ◌^◌, IfOk};
+ghost use Rattle.std.specs.Prelude.{◌≡◌, ◌≤◌, ◌^◌, IfOk, true};
 ghost use Rattle.std.specs.List.{All};
 
 use bt_intake::intake::LineIntake;
 use bt_ports::NoMemory;
 use bt_ports::blob::Blob;
 use bt_ports::memory::source::MemSource;
-use bt_ports::outside::Intake;
-use bt_ports::parts::{Items, Named, Next, Sources};
+use bt_ports::outside::{Intake, Source};
+use bt_ports::parts::{Items, Named, Next, Read, Sources};
 use bt_ports::sequence::Sequence;
 use bt_ports::text::Text;
 use std::alloc::Global;
@@ -38,9 +39,36 @@ fn number(line: &str, name: &str) -> u64 {
     field(line, name).parse::<u64>().unwrap_or(0)
 }
 
-// The bytes of a source, with line feeds and carriage returns.
-fn bytes_of(alloc: Global, text: &str) -> Result<Blob, NoMemory> {
+/// A source that keeps the lengths of the buffers that it was given.
+#[derive(Drop)]
+struct Measured {
+    source: MemSource,
+    sizes: Vec<usize>,
+}
+
+impl Source for Measured {
+    ghost faults = { λ s. s.source.faults };
+
+    ghost place = { λ s. s.source.place };
+
+    ghost tells = { λ _. true };
+
+    ghost bytes = { λ s. s.source.bytes };
+
+    ghost taken = { λ s. s.source.taken };
+
+    fn read(&mut self, buf: &mut [u8]) -> Read {
+        let _ = self.sizes.push(buf.len());
+        self.source.read(buf)
+    }
+}
+
+// The bytes of a source, with line feeds and carriage returns, behind so many others.
+fn bytes_of(alloc: Global, fill: u64, text: &str) -> Result<Blob, NoMemory> {
     let mut bytes = Vec::new(alloc);
+    for _ in 0..fill {
+        bytes.push(b'x')?;
+    }
     for byte in text.as_bytes() {
         bytes.push(match *byte {
             b'|' => b'\n',
@@ -52,8 +80,8 @@ fn bytes_of(alloc: Global, text: &str) -> Result<Blob, NoMemory> {
 }
 
 // A source of which nothing was taken.
-fn source(alloc: Global, line: &str, text: &str) -> Result<Named<MemSource>, NoMemory>
-    ensures { IfOk result (λ n. n.source.taken ≡ 0) }
+fn source(alloc: Global, line: &str, text: &str) -> Result<Named<Measured>, NoMemory>
+    ensures { IfOk result (λ n. n.source.source.taken ≡ 0) }
 {
     let mut calls = Sequence::new(alloc);
     calls.push(number(line, "fail"))?;
@@ -62,13 +90,17 @@ fn source(alloc: Global, line: &str, text: &str) -> Result<Named<MemSource>, NoM
         Some((path, bytes)) => (Some(Text::make(alloc, path)?), bytes),
         None => (None, text),
     };
-    let source = MemSource::make(bytes_of(alloc, bytes)?, piece, calls);
+    let bytes = bytes_of(alloc, number(line, "fill").min(100_000), bytes)?;
+    let source = Measured {
+        source: MemSource::make(bytes, piece, calls),
+        sizes: Vec::new(alloc),
+    };
     Ok(Named { path, source })
 }
 
 // The sources of the case.
-fn sources(alloc: Global, line: &str) -> Result<Sources<MemSource>, NoMemory>
-    ensures { IfOk result (λ all. All (λ n. n.source.taken ≡ 0) all.list) }
+fn sources(alloc: Global, line: &str) -> Result<Sources<Measured>, NoMemory>
+    ensures { IfOk result (λ all. All (λ n. n.source.source.taken ≡ 0) all.list) }
 {
     let mut all = Sequence::new(alloc);
     for text in field(line, "sources").split(',') {
@@ -77,18 +109,39 @@ fn sources(alloc: Global, line: &str) -> Result<Sources<MemSource>, NoMemory>
     Ok(all)
 }
 
+fn push_bytes(text: &mut String, bytes: &[u8]) -> Result<(), NoMemory> {
+    for byte in bytes {
+        text.push(if *byte == b'\r' {
+            '^'
+        } else {
+            char::from(*byte)
+        })?;
+    }
+    Ok(())
+}
+
+// The lengths of the buffers that the sources were given.
+fn push_sizes(text: &mut String, sources: &[Named<Measured>]) -> Result<(), NoMemory> {
+    text.push_str(" reads")?;
+    for named in sources {
+        for size in named.source.sizes.as_slice() {
+            write!(text, " {size}")?;
+        }
+    }
+    Ok(())
+}
+
 fn push_items(text: &mut String, items: &Items) -> Result<(), NoMemory> {
     for item in items.as_slice() {
         text.push_str(" [")?;
         if let Some(path) = &item.path {
             write!(text, "{}:", path.as_str())?;
         }
-        for byte in item.bytes.as_slice() {
-            text.push(if *byte == b'\r' {
-                '^'
-            } else {
-                char::from(*byte)
-            })?;
+        let bytes = item.bytes.as_slice();
+        if bytes.len() > 40 {
+            write!(text, "{} bytes", bytes.len())?;
+        } else {
+            push_bytes(text, bytes)?;
         }
         text.push(']')?;
     }
@@ -114,6 +167,9 @@ fn given(alloc: Global, line: &str) -> Result<String, NoMemory> {
         };
         text.push_str(last)?;
         break;
+    }
+    if !field(line, "sizes").is_empty() {
+        push_sizes(&mut text, intake.into_sources().as_slice())?;
     }
     Ok(text)
 }

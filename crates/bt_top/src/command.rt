@@ -1,17 +1,17 @@
 //! All that the program does.
 ghost use Rattle.std.specs.Prelude.{◌≡◌, ℕ, List, ◌∷◌, [], None};
-ghost use Rattle.bt_top.specs.Lines.{usage_line};
-ghost use Rattle.bt_top.specs.Outside.{over, SaysOnly};
-ghost use Rattle.bt_top.specs.run.Promise.{RunPromise};
+ghost use Rattle.bt_commands.specs.Lines.{usage_line};
+ghost use Rattle.bt_commands.specs.Outside.{over, SaysOnly};
+ghost use Rattle.bt_run.specs.Promise.{RunPromise};
 ghost use Rattle.bt_top.specs.Words.{IsRun, IsBlobl, AreNoCommand};
-ghost use Rattle.bt_top.specs.blobl.Promise.{BloblPromise};
+ghost use Rattle.bt_blobl.specs.Promise.{BloblPromise};
 
-use crate::blobl::command::blobl_command;
-use crate::run::command::run_one;
-use crate::status::Status;
 use crate::words::{blobl_mapping, run_file};
+use bt_blobl::command::blobl_command;
+use bt_commands::status::Status;
 use bt_ports::outside::{Answerer, Clock, Sink, Source};
 use bt_ports::world::World;
+use bt_run::command::run_one;
 use std::alloc::Global;
 
 /// Does what the words after the program's name ask, and gives the status with which the program ends.

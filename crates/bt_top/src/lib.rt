@@ -1,10 +1,5 @@
-//! The commands of the program.
+//! All that the program does, by its words.
 #![tactic(auto)]
 
-pub mod blobl;
 pub mod command;
-pub mod limits;
-mod lines;
-pub mod run;
-pub mod status;
 mod words;

@@ -1,11 +1,11 @@
 use Rattle.std.proofs.Common.{◌≡◌}
-use Rattle.bt_intake.specs.Reader.{Stands, Goes, work}
+use Rattle.bt_intake.specs.Reader.{ReaderHolds, Goes, work}
 use Rattle.bt_intake.specs.Sources.{fault_count}
 use Rattle.bt_intake.proofs.reader.LineReader.next.Given as goal
 
 abbrev pub invariant-steps : goal.invariant-steps
 invariant-steps g l = record {
-  stands : Stands g.S.Readable.shown l.self;
+  stands : ReaderHolds g.S.Readable.shown l.self;
   goes : Goes g.S.Readable.shown l.fn.self l.self;
   given : l.self.given ≡ l.fn.self.given;
   faults : fault_count g.S.Readable.shown l.self.sources.list ≡ fault_count g.S.Readable.shown l.fn.self.sources.list;

@@ -1,0 +1,5 @@
+pub mod Loop
+pub mod MappingFaults
+pub mod Tales
+pub mod Turns
+pub mod Whole

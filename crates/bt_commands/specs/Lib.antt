@@ -1,0 +1,4 @@
+pub mod Calls
+pub mod Input
+pub mod Lines
+pub mod Outside

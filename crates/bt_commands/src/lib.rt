@@ -1,0 +1,6 @@
+//! What all commands share: how they end, what they take at most, and what they say and ask of the world.
+#![tactic(auto)]
+
+pub mod limits;
+pub mod lines;
+pub mod status;

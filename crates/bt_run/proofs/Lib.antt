@@ -1,0 +1,5 @@
+pub mod Carrying
+pub mod HandedBack
+pub mod Plans
+pub mod Tales
+pub mod Whole

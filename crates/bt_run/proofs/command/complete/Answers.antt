@@ -1,0 +1,16 @@
+use Rattle.std.proofs.Common.{refl}
+use Rattle.bt_commands.specs.Outside.{over}
+use Rattle.bt_run.proofs.HandedBack.{hands-back-copy}
+use Rattle.bt_run.proofs.command.complete.Goals as goal
+
+pub returns-clause-keeps : goal.returns-clause-keeps
+returns-clause-keeps g c = λ t.
+    let ran = c.carry.ensures in
+    let stands = c.hand_back.ensures.stands in
+    record {
+      ends = _;
+      keeps = c.hand_back.ensures.keeps t;
+      hands_back = λ opening clock begun fresh.
+          hands-back-copy (over g.W.World g.W.S.Source g.W.K.Sink g.W.A.Answerer g.W.C.Clock) _ (λ i. refl) (λ i. refl) (λ i. refl) (λ i. refl) (λ i. refl) (λ i. refl) (λ i. refl) (λ i. refl)
+          opening clock _ c.carry.new.desk begun fresh ran.run ran.faults ran.places ran.idle c.hand_back.ensures.standing stands.0 stands.1 c.report-report.result c.report-report.ensures.report;
+    }

@@ -1,0 +1,42 @@
+//! The lines of a run's report.
+ghost use Rattle.std.specs.Prelude.{◌≡◌};
+ghost use Rattle.bt_run.specs.Report.{taken_line, releases_line};
+
+use bt_commands::lines::{Line, push_number};
+use bt_desk::report::Report;
+
+/// `taken T acknowledged A refused R`.
+pub(crate) fn taken_line(report: &Report) -> Line
+    ensures { result.bytes ≡ taken_line report.now }
+{
+    let mut line = Line::new();
+    line.push_str("taken ");
+    push_number(&mut line, report.taken);
+    line.push_str(" acknowledged ");
+    push_number(&mut line, report.acked);
+    line.push_str(" refused ");
+    push_number(&mut line, report.refused);
+    line
+}
+
+/// `releases count A bytes B check C period D stall E room F end G`.
+pub(crate) fn releases_line(report: &Report) -> Line
+    ensures { result.bytes ≡ releases_line report.now }
+{
+    let mut line = Line::new();
+    line.push_str("releases count ");
+    push_number(&mut line, report.count);
+    line.push_str(" bytes ");
+    push_number(&mut line, report.bytes);
+    line.push_str(" check ");
+    push_number(&mut line, report.check);
+    line.push_str(" period ");
+    push_number(&mut line, report.period);
+    line.push_str(" stall ");
+    push_number(&mut line, report.stall);
+    line.push_str(" room ");
+    push_number(&mut line, report.room);
+    line.push_str(" end ");
+    push_number(&mut line, report.end);
+    line
+}

@@ -1,5 +1,0 @@
-use Rattle.bt_top.proofs.BloblWhole.{went-unread}
-use Rattle.bt_top.proofs.blobl.command.blobl_course.Goals as goal
-
-pub returns-in-Err-clause-went : goal.returns-in-Err-clause-went
-returns-in-Err-clause-went g c = λ t. went-unread g.W.S.Source c.args.text.now _ _ _ _ c.in-Err.ensures.unread

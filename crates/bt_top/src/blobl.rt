@@ -1,5 +1,0 @@
-//! Mapping lines of the standard input.
-pub mod command;
-pub mod course;
-mod lines;
-mod outcome;
