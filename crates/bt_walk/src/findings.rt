@@ -58,6 +58,14 @@ impl<'a> Findings<'a> {
         self.list.as_slice()
     }
 
+    /// What was found, in its order, in a vector. It takes no memory.
+    pub fn into_vec(self) -> Vec<Finding<'a>>
+        ensures { map spec.located result.items ≡ self.entry }
+    {
+        let Findings { list } = self;
+        list
+    }
+
     fn push(&mut self, finding: Finding<'a>) -> Result<(), NoMemory>
         ensures { OnOk result (self.new ≡ self.old ++ spec.located finding.entry ∷ []) }
     {
