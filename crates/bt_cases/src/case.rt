@@ -1,6 +1,7 @@
 //! One case.
 ghost use Rattle.std.specs.Prelude.{◌≡◌, IfOk};
 
+use bt_commands::status::Status;
 use bt_ports::NoMemory;
 use bt_ports::blob::Blob;
 use bt_ports::memory::clock::MemClock;
@@ -10,7 +11,6 @@ use bt_ports::parts::Calls;
 use bt_ports::sequence::Sequence;
 use bt_ports::text::Text;
 use bt_top::command::benthos;
-use bt_commands::status::Status;
 use std::alloc::{AllocError, Global};
 
 /// A case, by the fields of its line. A field that is missing is empty, and a number that can't be read is 0.
