@@ -11,10 +11,10 @@ mod tests;
 mod words;
 mod world;
 
+use bt_commands::status::Status;
 use bt_ports::NoMemory;
 use bt_ports::world::World;
 use bt_top::command::benthos;
-use bt_commands::status::Status;
 use std::process::ExitCode;
 use words::words;
 use world::RealWorld;
