@@ -1,0 +1,11 @@
+use Rattle.std.proofs.Common.{◌≡◌, [], drop, map, Ok}
+use Rattle.bt_contexts.specs.Seen.{seen, out_of}
+use Rattle.bt_tree.specs.Parts.{in_arg, in_member, in_term, in_case, in_suffix}
+use Rattle.bt_meaning.specs.Value.{value, sense}
+use Rattle.bt_meaning.specs.Lambdas as spec
+use Rattle.bt_queries.specs.Views as views
+use Rattle.bt_queries.proofs.Loops.{after}
+use Rattle.bt_queries.proofs.evaluator.Evaluator.all_from.Given as goal
+
+abbrev pub invariant-loop-item : goal.invariant-loop-item
+invariant-loop-item g l = spec.all_from (views.arg_of l.f) l.items (seen l.c) ≡ spec.all_from (views.arg_of l.f) (drop l.item-index l.items) (seen l.c)

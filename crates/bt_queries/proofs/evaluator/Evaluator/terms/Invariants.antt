@@ -1,0 +1,11 @@
+use Rattle.std.proofs.Common.{◌≡◌, [], drop, map, Ok}
+use Rattle.bt_contexts.specs.Seen.{seen, out_of}
+use Rattle.bt_tree.specs.Parts.{in_arg, in_member, in_term, in_case, in_suffix}
+use Rattle.bt_meaning.specs.Value.{value, sense}
+use Rattle.bt_meaning.specs.Operators as spec
+use Rattle.bt_queries.specs.Views as views
+use Rattle.bt_queries.proofs.Loops.{after}
+use Rattle.bt_queries.proofs.evaluator.Evaluator.terms.Given as goal
+
+abbrev pub invariant-loop-t : goal.invariant-loop-t
+invariant-loop-t g l = spec.terms (map (in_term sense) l.t-items) (seen l.c) (value l.first (seen l.c)) ≡ spec.terms (map (in_term sense) (drop l.t-index l.t-items)) (seen l.c) l.got
