@@ -1,23 +1,15 @@
 //! The program `benthos` over the real outside.
 #![tactic(auto)]
 
-mod answerer;
-mod clock;
-mod sink;
-mod source;
-mod stream;
-#[cfg(test)]
-mod tests;
 mod words;
-mod world;
 
 use bt_commands::status::Status;
+use bt_outside::RealWorld;
 use bt_ports::NoMemory;
 use bt_ports::world::World;
 use bt_top::command::benthos;
 use std::process::ExitCode;
 use words::words;
-use world::RealWorld;
 
 fn exit_code(status: Status) -> ExitCode {
     ExitCode::from(match status {
