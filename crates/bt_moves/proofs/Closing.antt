@@ -1,53 +1,22 @@
 -- A flush of what rests closes all that is open, and a delivery ends at rest.
-use Rattle.std.proofs.Common.{◌≡◌, ◌≢◌, ℕ, zero, suc, ◌+◌, ◌-◌, ◌*◌, ◌<◌, ◌≤◌, Bool, true, false, cond, eqb, ltb, leb, not, ◌&&◌, ◌||◌, List, [], ◌∷◌, ◌++◌, length, get_or, set, ◌⊎◌, inl, inr, arith, refl, sym, ap, ◌∙◌, subst, eq-eqb, Option, Some, None, MatchOption, IsSome, IsTrue, get_or-set_same, get_or-set_other, length-set}
-use Rattle.std.specs.List.{AllByRecursion}
+use Rattle.std.proofs.Common.{◌≡◌, ◌≢◌, ℕ, zero, suc, ◌<◌, ◌≤◌, Bool, true, false, cond, List, [], ◌∷◌, length, get_or, ◌⊎◌, inl, inr, arith, refl, sym, ap, subst}
 use Rattle.std.proofs.lemmas.Bool.Decides.{eqb_tells, leb_tells}
-use Rattle.std.proofs.lemmas.Bool.{eqb-true}
-use Rattle.bt_chains.specs.declared.Entry.{Entry}
-use Rattle.bt_demand.specs.Find.{begun, below}
-use Rattle.bt_demand.specs.Flushing.{Still, Late, Moves, InOrder}
-use Rattle.bt_demand.specs.Holding.{one_if, is_waiting, is_open, count_holds, count_holds_in, waiting, waits_at, holds_at, booked_in, active, every_hold, held_by, Tidy}
-use Rattle.bt_demand.specs.Holds.{holds}
+use Rattle.bt_demand.specs.Find.{begun}
+use Rattle.bt_demand.specs.Flushing.{Still}
+use Rattle.bt_demand.specs.Holding.{is_open, waiting}
 use Rattle.bt_demand.specs.Next.{todo}
 use Rattle.bt_demand.specs.Outcomes.{outcome}
 use Rattle.bt_demand.specs.Parts.{Part}
-use Rattle.bt_demand.specs.Reached.{Reach, NextIn}
-use Rattle.bt_demand.specs.Steps.{settle, wait, release, state_for}
-use Rattle.bt_demand.specs.Tree.{Tree, Trees, leaf, drop as nothing, reject, all, first, hold, none, more}
-use Rattle.bt_demand.specs.Work.{work, Waits, SomeWaits}
-use Rattle.bt_demand.specs.declared.outcome.Outcome.{Outcome}
-use Rattle.bt_demand.specs.declared.outcome.Outcome.TheVariants.{Open as Pending, Met, Lost}
-use Rattle.bt_demand.specs.declared.routes.HoldPolicy.{HoldPolicy}
-use Rattle.bt_demand.specs.declared.todo.Todo.{Todo}
-use Rattle.bt_demand.specs.declared.todo.Todo.TheVariants.{Put, Wait, Settled}
-use Rattle.bt_demand.proofs.Falls.{settle_less, wait_less, release_less}
-use Rattle.bt_demand.proofs.Flushing.{late_stays, late_next, late_still}
-use Rattle.bt_demand.proofs.Moves.{settle_steps, wait_steps, release_steps}
+use Rattle.bt_demand.specs.Tree.{Tree}
 use Rattle.bt_demand.proofs.Shapes.{still-settled}
-use Rattle.bt_steps.specs.Stepped.{stepped}
-use Rattle.bt_steps.specs.declared.step.Step.{Step}
-use Rattle.bt_steps.specs.declared.step.Step.TheVariants.{Settle, Wait as WaitIn, Release}
-use Rattle.bt_steps.proofs.BookLaws.{fresh_waits}
-use Rattle.bt_steps.proofs.HoldLaws.{count_le, every_is_holds, settled_waits}
-use Rattle.bt_steps.proofs.Steps.{held_step}
-use Rattle.bt_ledger.specs.Book.{Booked, IsFront}
-use Rattle.bt_ledger.specs.Calls.{waited, entry_of, Released as ReleasedTo, FrontReleased, IsOut, policy_at, reason, reason_at, is_met, is_past, front_moment, last_ends, ends_or, size_or}
-use Rattle.bt_ledger.specs.Due.{LeastDue, IsDue, unanswered, counts_for, open_parts, times}
-use Rattle.bt_ledger.specs.Ledger.{Ledger, slot_at, parts_in, is_free, is_given, number_in, moment_in, items_in, answered_in, open_in, part_tree, IsPart, IsGiven, with_slot, with_part, chain_at, with_chain, over_parts, over_slots, booked, held_in, held, sizes, Roomy}
-use Rattle.bt_ledger.specs.Open.{Open, part_at, tree_of, from_of, with_tree, no_part}
-use Rattle.bt_ledger.specs.declared.reason.Reason.TheVariants.{Count, Bytes, Check}
+use Rattle.bt_ledger.specs.Book.{Booked}
+use Rattle.bt_ledger.specs.Due.{unanswered, counts_for, open_parts, times}
+use Rattle.bt_ledger.specs.Ledger.{Ledger, slot_at, parts_in, is_given, answered_in, part_tree, over_parts, held}
+use Rattle.bt_ledger.specs.Open.{tree_of}
 use Rattle.bt_ledger.specs.declared.slot.Slot.{Slot}
 use Rattle.bt_ledger.specs.declared.slot.Slot.TheVariants.{Free, Out, Given}
-use Rattle.bt_ledger.proofs.BookSlots.{none_here, settled_quiet, Quiet}
-use Rattle.bt_ledger.proofs.HoldKept.{held_set, length_more}
-use Rattle.bt_ledger.proofs.Room.{part_cases}
 use Rattle.bt_ledger.proofs.Slots.{sum_under}
-use Rattle.bt_ledger.proofs.Sums.{slots_set, sum_with}
-use Rattle.bt_leaves.proofs.Begun.{put_begins, wait_begins}
-use Rattle.bt_leaves.proofs.Kept.{begun_step}
-use Rattle.bt_leaves.proofs.NextLeaf.{below_less}
-use Rattle.bt_leaves.proofs.Reaching.{reach_release, waits_waiting, waits_is}
-use Rattle.bt_moves.specs.Moves.{left_to_do, SlotStays, StepAt, Keeps, KeepsBut, Answering, Popped, AllLate, LateKeeps, LateKeepsBut, PopKeepsLate, RipensNone, RipensBut, BeginsNone, BeginsBut, OutStays, is_out}
+use Rattle.bt_moves.specs.Moves.{SlotStays, Keeps, RipensNone}
 use Rattle.bt_moves.specs.Resting.{Unfinished, AtRest, Unripe, BegunStill, Emptied, Delivering, Resting}
 use Rattle.bt_moves.proofs.Ordering.{chains_zero, slot_in}
 

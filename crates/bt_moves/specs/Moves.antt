@@ -1,5 +1,5 @@
 -- What moves leave as it was: relations of the ledger before to the ledger after.
-use Rattle.std.specs.Prelude.{◌≡◌, ◌≢◌, ℕ, ◌+◌, ◌*◌, ◌<◌, ◌≤◌, Bool, true, false, not, ◌&&◌, ◌⊎◌, List, [], length, Option, Some, None}
+use Rattle.std.specs.Prelude.{◌≡◌, ◌≢◌, ℕ, ◌+◌, ◌*◌, ◌<◌, ◌≤◌, Bool, true, false, not, ◌&&◌, ◌⊎◌, [], length, Option, Some, None}
 use Rattle.bt_chains.specs.declared.Entry.{Entry}
 use Rattle.bt_demand.specs.Find.{begun}
 use Rattle.bt_demand.specs.Flushing.{Still, Late}
