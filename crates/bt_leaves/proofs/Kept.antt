@@ -86,9 +86,12 @@ mutual
   flat_untried_in none h = tt
   flat_untried_in (more t ts) h = (flat_untried t h.0, flat_untried_in ts h.1)
 
+pub rises_kept : (k m : ℕ) (t : Tree) → WellFormed k m (untried t) → Rises (nodes t)
+rises_kept k m t w = subst (λ ns. Rises ns) (nodes_untried t) w.holds_rise
+
 -- the holds of a demand that was well formed stand in the order in which one pass empties them, whatever was done since
 pub order_kept : (k m : ℕ) (t : Tree) → WellFormed k m (untried t) → InOrder t
-order_kept k m t w = in-order t (flat_untried t w.holds_flat) (subst (λ ns. Rises ns) (nodes_untried t) w.holds_rise)
+order_kept k m t w = in-order t (flat_untried t w.holds_flat) (rises_kept k m t w)
 
 -- holds don't matter for what is said of leaves
 mutual

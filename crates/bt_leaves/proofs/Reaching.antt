@@ -1,10 +1,14 @@
 -- Which holds are asked and released after a step.
-use Rattle.std.proofs.Common.{◌≡◌, ℕ, zero, suc, ◌+◌, ◌≤◌, Bool, true, false, cond, eqb, ◌&&◌, ◌⊎◌, inl, inr, arith, refl, ap, ◌∙◌, Option, Some, None}
+use Rattle.std.proofs.Common.{◌≡◌, ℕ, zero, suc, ◌+◌, ◌≤◌, Bool, true, false, cond, eqb, ◌&&◌, ◌⊎◌, inl, inr, arith, refl, ap, ◌∙◌, Option, Some, None, IsSome}
 use Rattle.std.proofs.lemmas.Bool.Decides.{eqb_tells}
 use Rattle.bt_demand.specs.Find.{below, below_each, tree_or_else}
 use Rattle.bt_demand.specs.Holding.{one_if, is_waiting, count_holds, count_holds_in, waits_at, holds_at, Tidy, TidyIn, TidyAfter}
 use Rattle.bt_demand.specs.Outcomes.{outcome}
-use Rattle.bt_demand.specs.Reached.{Reach, ReachAll, ReachFirst}
+use Rattle.bt_demand.specs.Next.{todo}
+use Rattle.bt_demand.specs.Reached.{Reach, ReachAll, ReachFirst, NextIn}
+use Rattle.bt_demand.specs.declared.todo.Todo.TheVariants.{Put}
+use Rattle.bt_demand.proofs.Reached.{reach-there}
+use Rattle.std.specs.Prelude.{option_map}
 use Rattle.bt_demand.specs.Steps.{settle, settle_each, release, release_each, releases}
 use Rattle.bt_demand.specs.Tree.{Tree, Trees, leaf, drop as nothing, reject, all, first, hold, none, more}
 use Rattle.bt_demand.specs.Work.{Waits, SomeWaits}
@@ -197,3 +201,16 @@ mutual
     | inl a ↦ inl (waits_is n t a)
     | inr b ↦ inr (waits_is_in n ts b)
   ]
+
+some_of : (o : Option Tree) → (o ≡ None → ⊥) → IsSome o
+some_of None h = absurd (h refl)
+some_of (Some t) h = refl
+
+-- a hold that is asked and released is there
+pub reached_there : (n : ℕ) (t : Tree) → Reach n t → IsSome (below n t)
+reached_there n t r = some_of (below n t) (reach-there n t r)
+
+-- the leaf that is next below a hold, by what is next there
+pub next_in : (l k : ℕ) (o : Option Tree) → Some (Some (Put l k)) ≡ option_map todo o → NextIn l k o
+next_in l k None e = cc
+next_in l k (Some t) e = let a : todo t ≡ Some (Put l k) = cc in a

@@ -72,5 +72,5 @@ given_slot l s o h = get_or-set_same l.slots s (Given o) Free h
 pub given_here : (l : Ledger) (s : ℕ) (o : Open) → s < length l.slots → IsGiven (with_slot l s (Given o)) s
 given_here l s o h = (let a = length-set l.slots s (Given o) in omega arith, ap is_given (given_slot l s o h))
 
-pub none_at_at : (l : Ledger) (s : ℕ) → Still (todo (part_tree l s (length (parts_in (slot_at l s)))))
-none_at_at l s = none_at (parts_in (slot_at l s)) (length (parts_in (slot_at l s))) (omega arith)
+pub none_behind : (l : Ledger) (s : ℕ) → Still (todo (part_tree l s (length (parts_in (slot_at l s)))))
+none_behind l s = none_at (parts_in (slot_at l s)) (length (parts_in (slot_at l s))) (omega arith)
