@@ -18,6 +18,7 @@ use Rattle.bt_contexts.specs.declared.context.Got.{Got}
 use Rattle.bt_contexts.specs.declared.context.Got.TheVariants as got
 use Rattle.bt_contexts.specs.declared.context.Ctx.{Ctx}
 
+-- a name with its value, before those that were in force
 abbrev pub names_step : Names-F Pairs → Pairs
 names_step (Names-F.First name x) = (name.now, x.now) ∷ []
 names_step (Names-F.More name x more) = (name.now, x.now) ∷ more.now
@@ -26,6 +27,7 @@ names_step (Names-F.More name x more) = (name.now, x.now) ∷ more.now
 abbrev pub names_seen : Names → Pairs
 names_seen = fold-Names Pairs names_step
 
+-- none where no context is named
 abbrev pub all_names : Option (Bor Names) → Pairs
 all_names None = []
 all_names (Some n) = names_seen n.now
@@ -51,6 +53,7 @@ abbrev pub out_of : Got → Out
 out_of (got.Known x) = Value x.now
 out_of (got.Made o) = o
 
+-- the variables, of which there are none at the top
 abbrev pub vars_seen : Option (Bor Pairs) → Pairs
 vars_seen None = []
 vars_seen (Some m) = m.now

@@ -1,6 +1,7 @@
 //! Contents as documents, and documents as contents.
-ghost use Rattle.std.specs.Prelude.{◌≡◌, IfOk, Err};
+ghost use Rattle.std.specs.Prelude.{◌≡◌, IfOk, Err, false};
 ghost use Rattle.std.specs.Option.{option_copied};
+ghost use Rattle.bt_value.specs.Plain.{has_bytes};
 ghost use Rattle.bt_value.specs.declared.message.Out.TheVariants as out;
 ghost use Rattle.bt_meaning.specs.Contents as spec;
 
@@ -12,9 +13,10 @@ use bt_texts::conversions::written;
 use bt_value::{JsonFault, Val, has_bytes, read_json, write_json};
 use std::alloc::Global;
 
-/// The value that a content is as JSON, or why it is none.
+/// The value that a content is as JSON, or why it is none. No bytes stand in such a value.
 pub fn document(alloc: Global, content: &[u8]) -> Result<Result<Val, ContentFault>, NoMemory>
-    ensures { IfOk result (λ r. r ≡ spec.document content.now) }
+    ensures reads { IfOk result (λ r. r ≡ spec.document content.now) }
+    ensures plain { IfOk result (λ r. IfOk r (λ v. has_bytes v ≡ false)) }
 {
     match read_json(alloc, content) {
         Ok(value) => Ok(Ok(value)),

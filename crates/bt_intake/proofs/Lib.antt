@@ -1,9 +1,11 @@
-pub mod Examples
-pub mod Cuts
-pub mod Buffers
-pub mod Batches
-pub mod SourceLists
+pub mod Batching
+pub mod Places
+pub mod ReadBytes
 pub mod Rests
+pub mod Sizes
+pub mod SoFar
+pub mod SourceLists
 pub mod Steps
+pub mod Told
 pub mod Turns
-pub mod Closed
+pub mod Windows

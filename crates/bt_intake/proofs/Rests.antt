@@ -1,16 +1,15 @@
 -- What is still to be cut of some sources, as bytes of the one at hand are taken and cut.
-use Rattle.std.proofs.Common.{◌≡◌, ℕ, zero, suc, ◌+◌, ◌<◌, ◌≤◌, List, [], ◌∷◌, ◌++◌, length, drop, Some, slice_get, slice_set, refl, sym, ap, ◌∙◌, subst, arith, append_assoc, append-nil}
-use Rattle.std.proofs.lemmas.List.{drop_all}
+use Rattle.std.proofs.Common.{◌≡◌, ℕ, zero, suc, ◌+◌, ◌<◌, ◌≤◌, List, [], ◌∷◌, ◌++◌, length, take, drop, Some, slice_get, slice_set, refl, sym, ap, ◌∙◌, subst, arith, append_assoc, append-nil}
+use Rattle.std.proofs.lemmas.List.{drop_all, take-append-drop}
 use Rattle.std.specs.List.{All}
 use Rattle.std.proofs.lemmas.List.Elements.{All-head, All-tail}
-use Rattle.bt_ports.specs.declared.parts.Item.{Item}
 use Rattle.bt_ports.specs.declared.parts.Named.{Named}
 use Rattle.bt_ports.specs.declared.outside.Source as Source
-use Rattle.bt_intake.specs.Lines.{SourceBytes, batches, item}
-use Rattle.bt_intake.specs.Progress.{HasNoFeed, Follows, source}
+use Rattle.bt_lines.specs.Lines.{SourceBytes}
+use Rattle.bt_lines.specs.Pieces.{FirstAt}
+use Rattle.bt_lines.specs.Follows.{Follows, source}
 use Rattle.bt_intake.specs.Sources.{told, taken_count}
 use Rattle.bt_intake.specs.Reader.{rest}
-use Rattle.bt_intake.proofs.Cuts.{follows-line, next-line, follows-skip, follows-last, next-last, none_closed}
 use Rattle.bt_intake.proofs.SourceLists.{drop-get, drop-slice_set}
 
 pub get-inside : {A : Type 0} (xs : List A) (i : ℕ) → i < length xs → (x : A) × (slice_get xs i ≡ Some x)
@@ -48,34 +47,21 @@ module _ {S : Type 0} (g : Source.Ghosts S) where
   pub none-left : (n : Named S) → length (g.bytes n.source) ≤ g.taken n.source → left n ≡ []
   none-left n h = drop_all (g.taken n.source) (g.bytes n.source) h
 
-  module _ (all : List SourceBytes) (given taken : ℕ) (ns : List (Named S)) (i : ℕ) (n : Named S) (at : slice_get ns i ≡ Some n) where
-    pub rest-line : (bytes line tail : List ℕ) → bytes ≡ line ++ 10 ∷ tail → HasNoFeed line → Follows all given taken bytes (rest g bytes (drop i ns)) → Follows all (given + 1) taken tail (rest g tail (drop i ns))
-    rest-line bytes line tail e h f =
-        let k : Follows all given taken (line ++ 10 ∷ tail) (rest g (line ++ 10 ∷ tail) (drop i ns)) = subst (λ b. Follows all given taken b (rest g b (drop i ns))) e f in
-        subst (Follows all (given + 1) taken tail) (sym (rest-at tail ns i n at))
-        (follows-line all given taken n.path line tail (left n) (rest g [] (drop (i + 1) ns)) h
-        (subst (Follows all given taken (line ++ 10 ∷ tail)) (rest-at (line ++ 10 ∷ tail) ns i n at) k))
+  module _ (d : List ℕ) (all : List SourceBytes) (given taken : ℕ) (ns : List (Named S)) (i : ℕ) (n : Named S) (at : slice_get ns i ≡ Some n) where
+    -- the sources from the one at hand on, as a list with it at the front
+    pub follows-at : (bytes : List ℕ) → Follows d all given taken bytes (rest g bytes (drop i ns)) → Follows d all given taken bytes (source n.path (bytes ++ left n) ∷ rest g [] (drop (i + 1) ns))
+    follows-at bytes f = subst (Follows d all given taken bytes) (rest-at bytes ns i n at) f
 
-    pub rest-next_line : (bound : ℕ) (bytes line tail : List ℕ) → bytes ≡ line ++ 10 ∷ tail → HasNoFeed line → taken ≤ bound → Follows all given taken bytes (rest g bytes (drop i ns)) → (later : List (List Item)) × (drop given (batches bound all) ≡ (item n.path line ∷ []) ∷ later)
-    rest-next_line bound bytes line tail e h w f =
-        let k : Follows all given taken (line ++ 10 ∷ tail) (rest g (line ++ 10 ∷ tail) (drop i ns)) = subst (λ b. Follows all given taken b (rest g b (drop i ns))) e f in
-        next-line all given taken bound n.path line tail (left n) (rest g [] (drop (i + 1) ns)) h w
-        (subst (Follows all given taken (line ++ 10 ∷ tail)) (rest-at (line ++ 10 ∷ tail) ns i n at) k)
+    pub follows-back : (bytes : List ℕ) → Follows d all given taken bytes (source n.path (bytes ++ left n) ∷ rest g [] (drop (i + 1) ns)) → Follows d all given taken bytes (rest g bytes (drop i ns))
+    follows-back bytes f = subst (Follows d all given taken bytes) (sym (rest-at bytes ns i n at)) f
 
-    pub rest-ended : (bytes : List ℕ) → length (g.bytes n.source) ≤ g.taken n.source → rest g bytes (drop i ns) ≡ source n.path bytes ∷ rest g [] (drop (i + 1) ns)
-    rest-ended bytes h = rest-at bytes ns i n at ∙ ap (λ x. source n.path x ∷ rest g [] (drop (i + 1) ns)) (ap (λ x. bytes ++ x) (none-left n h) ∙ append-nil bytes)
+    -- with its bytes in two parts
+    pub follows-split : (bytes : List ℕ) (k : ℕ) → Follows d all given taken bytes (rest g bytes (drop i ns))
+        → Follows d all given taken (take k bytes ++ drop k bytes) (source n.path ((take k bytes ++ drop k bytes) ++ left n) ∷ rest g [] (drop (i + 1) ns))
+    follows-split bytes k f =
+        subst (λ b. Follows d all given taken b (source n.path (b ++ left n) ∷ rest g [] (drop (i + 1) ns))) (sym (take-append-drop k bytes)) (follows-at bytes f)
 
-    pub rest-last : (piece : List ℕ) → HasNoFeed piece → 1 ≤ length piece → length (g.bytes n.source) ≤ g.taken n.source → Follows all given taken piece (rest g piece (drop i ns)) → Follows all (given + 1) taken [] (rest g [] (drop (i + 1) ns))
-    rest-last piece h some d f =
-        follows-last all given taken n.path piece (rest g [] (drop (i + 1) ns)) h some (subst (Follows all given taken piece) (rest-ended piece d) f)
-
-    pub rest-next_last : (bound : ℕ) (piece : List ℕ) → HasNoFeed piece → 1 ≤ length piece → length (g.bytes n.source) ≤ g.taken n.source → taken < bound → Follows all given taken piece (rest g piece (drop i ns)) → (later : List (List Item)) × (drop given (batches bound all) ≡ (item n.path piece ∷ []) ∷ later)
-    rest-next_last bound piece h some d w f =
-        next-last all given taken bound n.path piece (rest g [] (drop (i + 1) ns)) h some w (subst (Follows all given taken piece) (rest-ended piece d) f)
-
-    pub rest-skip : length (g.bytes n.source) ≤ g.taken n.source → Follows all given taken [] (rest g [] (drop i ns)) → Follows all given taken [] (rest g [] (drop (i + 1) ns))
-    rest-skip d f = follows-skip all given taken n.path (rest g [] (drop (i + 1) ns)) (subst (Follows all given taken []) (rest-ended [] d) f)
-
-    -- each batch that is closed in the bytes taken was given where those that aren't cut have no line feed
-    pub rest-none_closed : (bytes : List ℕ) → HasNoFeed bytes → Follows all given taken bytes (rest g bytes (drop i ns)) → drop given (batches taken all) ≡ []
-    rest-none_closed bytes h f = none_closed all given taken n.path bytes (left n) (rest g [] (drop (i + 1) ns)) h (subst (Follows all given taken bytes) (rest-at bytes ns i n at) f)
+    -- with no bytes behind those that were taken, where it ended
+    pub follows-ended : (bytes : List ℕ) → length (g.bytes n.source) ≤ g.taken n.source → Follows d all given taken bytes (rest g bytes (drop i ns)) → Follows d all given taken bytes (source n.path bytes ∷ rest g [] (drop (i + 1) ns))
+    follows-ended bytes h f =
+        subst (λ b. Follows d all given taken bytes (source n.path b ∷ rest g [] (drop (i + 1) ns))) (ap (λ x. bytes ++ x) (none-left n h) ∙ append-nil bytes) (follows-at bytes f)

@@ -1,121 +1,150 @@
 -- What stands of the reader after each of its steps.
-use Rattle.std.proofs.Common.{◌≡◌, ℕ, ◌+◌, ◌-◌, ◌<◌, ◌≤◌, false, IsTrue, List, [], ◌∷◌, ◌++◌, length, take, drop, Some, slice_get, slice_set, refl, sym, ap, ◌∙◌, subst, arith, append_assoc, append-nil, length-append, inl, inr}
+use Rattle.std.proofs.Common.{◌≡◌, ◌⊎◌, ℕ, zero, suc, ◌+◌, ◌-◌, ◌<◌, ◌≤◌, IsTrue, List, [], ◌∷◌, ◌++◌, length, take, drop, Some, slice_get, slice_set, refl, sym, ap, ◌∙◌, subst, arith, append_assoc, append-nil, length-append, inl, inr}
 use Rattle.std.proofs.lemmas.Bool.{cases_lt}
 use Rattle.std.proofs.lemmas.List.{take-append-drop, length-take, length-drop, take-take, drop-drop, drop_all}
 use Rattle.std.proofs.lemmas.Option.{same_Some}
-use Rattle.std.proofs.lemmas.List.Elements.{All-append}
-use Rattle.bt_ports.specs.Contents.{Contents}
 use Rattle.bt_ports.specs.declared.parts.Item.{Item}
 use Rattle.bt_ports.specs.declared.parts.Named.{Named}
-use Rattle.bt_ports.specs.declared.parts.Read.{Read}
 use Rattle.bt_ports.specs.declared.outside.Source as Source
+use Rattle.bt_lines.specs.Pieces.{NoneBefore, NoneIn, FirstAt}
+use Rattle.bt_lines.specs.Lines.{SourceBytes, item}
+use Rattle.bt_lines.specs.Follows.{Follows, source}
+use Rattle.bt_lines.specs.declared.TheConstants.{LONGEST}
+use Rattle.bt_lines.proofs.Pieces.{front-length, first-front}
+use Rattle.bt_lines.proofs.Lines.{follows-line, next-line, follows-skip, follows-last, next-last}
 use Rattle.bt_intake.specs.declared.reader.LineReader.{LineReader}
-use Rattle.bt_intake.specs.Lines.{is_line_feed, batches, item}
-use Rattle.bt_intake.specs.Progress.{HasNoFeed, FeedAt, Follows}
-use Rattle.bt_intake.specs.Sources.{all_tell, told, taken_count, SourcesKept, Ended}
-use Rattle.bt_intake.specs.Reading.{ReadsAt}
-use Rattle.bt_intake.specs.Reader.{pending, uncut, rest, ReaderHolds, MakesItem, GivesBatch}
-use Rattle.bt_intake.proofs.Buffers.{pending_length, behind_pending}
-use Rattle.bt_intake.proofs.Cuts.{get-dropped, follows-read}
-use Rattle.bt_intake.proofs.SourceLists.{tell-at, kept-slice_set, kept-length, tell-kept, told-kept, taken-slice_set, get-slice_set}
-use Rattle.bt_intake.proofs.Rests.{get-inside, left, rest-read, rest-line, rest-next_line, rest-last, rest-next_last, rest-skip}
+use Rattle.bt_intake.specs.Batches.{source_items}
+use Rattle.bt_intake.specs.Sources.{all_tell, told, taken_count, Ended}
+use Rattle.bt_intake.specs.Reader.{uncut, rest, ReaderHolds, MakesItem, GivesLine}
+use Rattle.bt_intake.proofs.Rests.{get-inside, left, follows-at, follows-back, follows-split, follows-ended}
 
 -- a list of which n elements were dropped and one is left has more than n
-more_than_dropped : {A : Type 0} (n : ℕ) (xs : List A) (x : A) (later : List A) → drop n xs ≡ x ∷ later → n + 1 ≤ length xs
+pub more_than_dropped : {A : Type 0} (n : ℕ) (xs : List A) (x : A) (later : List A) → drop n xs ≡ x ∷ later → n + 1 ≤ length xs
 more_than_dropped n xs x later e = omega (arith, ap length e, length-drop n xs)
 
--- bytes up to a line feed, that line feed and the bytes behind it
-split_at_feed : (bytes : List ℕ) (n : ℕ) → FeedAt bytes n → bytes ≡ take n bytes ++ 10 ∷ drop (n + 1) bytes
-split_at_feed bytes n f = sym (take-append-drop n bytes) ∙ ap (λ x. take n bytes ++ x) f.feed
+-- the element behind those that were dropped
+pub get-dropped : {A : Type 0} (n : ℕ) (xs : List A) (x : A) (later : List A) → drop n xs ≡ x ∷ later → slice_get xs n ≡ Some x
+get-dropped zero [] x later e = absurd (omega (arith, ap length e))
+get-dropped zero (y ∷ ys) x later e = cc
+get-dropped (suc n) [] x later e = absurd (omega (arith, ap length e))
+get-dropped (suc n) (y ∷ ys) x later e = get-dropped n ys x later e
 
 module _ {S : Type 0} (g : Source.Ghosts S) (s : LineReader S) (stands : ReaderHolds g s) where
-  length-pending : length (pending s) ≡ s.to - s.from
-  length-pending = pending_length s.buffer.items s.from s.to stands.ordered stands.inside
-
-  length-uncut : length (uncut s) ≡ length s.piece.items + (s.to - s.from)
-  length-uncut = omega (arith, length-append s.piece.items (pending s), length-pending)
+  pub length-uncut : length (uncut s) ≡ length s.window.items - s.from
+  length-uncut = length-drop s.from s.window.items
 
   -- some bytes aren't cut, so there is a source at hand
   pub at_hand : 1 ≤ length (uncut s) → s.at < length s.sources.list
-  at_hand some = elim (cases_lt s.at (length s.sources.list)) [ inl h ↦ h | inr h ↦ absurd (omega (arith, ap length (stands.done h))) ]
+  at_hand more = elim (cases_lt s.at (length s.sources.list)) [ inl h ↦ h | inr h ↦ absurd (omega (arith, more, ap length (stands.done h))) ]
 
-  module _ (n : ℕ) (feed : FeedAt (pending s) n) where
-    line_uncut : uncut s ≡ (s.piece.items ++ take n (pending s)) ++ 10 ∷ drop (n + 1) (pending s)
-    line_uncut = ap (λ x. s.piece.items ++ x) (split_at_feed (pending s) n feed) ∙ sym (append_assoc s.piece.items (take n (pending s)) (10 ∷ drop (n + 1) (pending s)))
+  -- a line that a delimiter ends
+  module _ (n : ℕ) (first : FirstAt s.delimiter (uncut s) n) (fits : n ≤ LONGEST) where
+    abbrev size : ℕ
+    size = n + length s.delimiter
 
-    line_clear : HasNoFeed (s.piece.items ++ take n (pending s))
-    line_clear = All-append (λ b. is_line_feed b ≡ false) s.piece.items (take n (pending s)) stands.clear feed.clear
+    pub first_at_hand : s.at < length s.sources.list
+    first_at_hand = at_hand (omega (arith, first.inside, stands.some))
 
-    pub feed_at_hand : s.at < length s.sources.list
-    feed_at_hand = at_hand (omega (arith, length-uncut, length-pending, feed.inside))
+    same_line : take n (take size (uncut s)) ≡ take n (uncut s)
+    same_line = take-take n size (uncut s) (omega arith)
 
-    -- the line is the next batch
-    pub line_next : (m : Named S) → slice_get s.sources.list s.at ≡ Some m → IsTrue (all_tell g s.sources.list) → (later : List (List Item)) × (drop s.given (batches s.bound (told g s.sources.list)) ≡ (item m.path (s.piece.items ++ take n (pending s)) ∷ []) ∷ later)
-    line_next m at t = rest-next_line g (told g s.sources.list) s.given s.taken s.sources.list s.at m at s.bound (uncut s) _ (drop (n + 1) (pending s)) line_uncut line_clear stands.within_bound (stands.follows t)
+    -- the line is the next item
+    pub line_next : (m : Named S) → slice_get s.sources.list s.at ≡ Some m → IsTrue (all_tell g s.sources.list) → (later : List Item) × (drop s.given (source_items s.delimiter s.bound (told g s.sources.list)) ≡ item s.delimiter m.path (take n (uncut s)) ∷ later)
+    line_next m at t =
+        let (later, e) = next-line s.delimiter stands.some (told g s.sources.list) s.given s.taken m.path (rest g [] (drop (s.at + 1) s.sources.list)) (take size (uncut s)) (drop size (uncut s)) (left g m) n
+        (first-front s.delimiter (uncut s) n first) (front-length s.delimiter (uncut s) n first)
+        (follows-split g s.delimiter (told g s.sources.list) s.given s.taken s.sources.list s.at m at (uncut s) size (stands.follows t)) fits s.bound stands.within_bound in
+        (later, e ∙ ap (λ b. item s.delimiter m.path b ∷ later) same_line)
 
-    -- what isn't cut once the line was: the bytes behind its line feed
-    line_leaves : (t : LineReader S) → t.piece.items ≡ [] → t.piece.items ++ drop (s.from + (n + 1)) (take s.to s.buffer.items) ≡ drop (n + 1) (pending s)
-    line_leaves t emptied = ap (λ x. x ++ drop (s.from + (n + 1)) (take s.to s.buffer.items)) emptied ∙ behind_pending s.buffer.items s.from s.to (n + 1)
+    -- what isn't cut once the line was: the bytes behind its delimiter
+    line_leaves : drop (s.from + size) s.window.items ≡ drop size (uncut s)
+    line_leaves = sym (drop-drop size s.from s.window.items)
 
-    line_stands : (t : LineReader S) → t.piece.items ≡ [] → ReaderHolds g (record s { piece = t.piece; from = s.from + (n + 1); given = s.given + 1 })
-    line_stands t emptied =
-        let here : s.at < length s.sources.list = feed_at_hand in
-        let (m, at) = get-inside s.sources.list s.at here in
+    pub stands-line : ReaderHolds g (record s { from = s.from + size; clear = 0; given = s.given + 1 })
+    stands-line =
+        let (m, at) = get-inside s.sources.list s.at first_at_hand in
         record {
-          ordered = omega (arith, length-pending, feed.inside);
-          inside = stands.inside;
-          size = stands.size;
+          some = stands.some;
+          inside = omega (arith, first.inside, length-uncut, stands.inside);
+          window_taken = stands.window_taken;
+          clear = λ k h. absurd (omega (arith, h));
+          clear_fits = inl refl;
           at_end = stands.at_end;
-          done = λ h. absurd (omega arith);
-          clear = subst HasNoFeed (sym emptied) (λ k d h. absurd (omega arith));
+          done = λ h. absurd (omega (arith, h, first_at_hand));
           within_bound = stands.within_bound;
           bound_fits = stands.bound_fits;
-          used = omega (arith, ap length (line_leaves t emptied), length-drop (n + 1) (pending s), length-pending, length-uncut, feed.inside, stands.used);
+          used = omega (arith, ap length line_leaves, length-drop size (uncut s), first.inside, stands.used, stands.some);
           counted = stands.counted;
           in_list = λ t. more_than_dropped s.given _ _ _ (line_next m at t).1;
-          follows = λ q. subst (λ u. Follows (told g s.sources.list) (s.given + 1) s.taken u (rest g u (drop s.at s.sources.list))) (sym (line_leaves t emptied))
-              (rest-line g (told g s.sources.list) s.given s.taken s.sources.list s.at m at (uncut s) _ (drop (n + 1) (pending s)) line_uncut line_clear (stands.follows q));
+          follows = λ t.
+              subst (λ u. Follows s.delimiter (told g s.sources.list) (s.given + 1) s.taken u (rest g u (drop s.at s.sources.list))) (sym line_leaves)
+              (follows-back g s.delimiter (told g s.sources.list) (s.given + 1) s.taken s.sources.list s.at m at (drop size (uncut s))
+              (follows-line s.delimiter stands.some (told g s.sources.list) s.given s.taken m.path (rest g [] (drop (s.at + 1) s.sources.list)) (take size (uncut s)) (drop size (uncut s)) (left g m) n
+              (first-front s.delimiter (uncut s) n first) (front-length s.delimiter (uncut s) n first)
+              (follows-split g s.delimiter (told g s.sources.list) s.given s.taken s.sources.list s.at m at (uncut s) size (stands.follows t)) fits));
         }
 
-    pub stands-line : (t : LineReader S) → t ≡ record s { piece = t.piece } → t.piece.items ≡ [] → ReaderHolds g (record t { from = t.from + (n + 1); given = t.given + 1 })
-    stands-line t same emptied = subst (λ u. ReaderHolds g (record u { from = u.from + (n + 1); given = u.given + 1 })) (sym same) (line_stands t emptied)
-
-    pub gives-line : (t : LineReader S) (items : Contents Item) → t ≡ record s { piece = t.piece } → MakesItem s (s.piece.items ++ take n (pending s)) items → GivesBatch g s (record t { from = t.from + (n + 1); given = t.given + 1 }) items
-    gives-line t items same makes = subst (λ u. GivesBatch g s (record u { from = u.from + (n + 1); given = u.given + 1 }) items) (sym same) (record {
-      one = ap length makes.made;
+    pub gives-line : (i : Item) → MakesItem s (take n (uncut s)) i → GivesLine g s (record s { from = s.from + size; clear = 0; given = s.given + 1 }) i
+    gives-line i makes = record {
       given = refl;
-      next = λ q. get-dropped s.given _ _ _ (line_next makes.at_hand makes.found q).1 ∙ ap Some (sym makes.made);
-    })
+      next = λ t. get-dropped s.given _ _ _ (line_next makes.at_hand makes.found t).1 ∙ ap Some (sym makes.made);
+    }
 
-  -- the bytes of the buffer were kept as the begin of a line
-  pub stands-kept_rest : (t : LineReader S) → t.piece.items ≡ s.piece.items ++ pending s → HasNoFeed (pending s) → ReaderHolds g (record s { piece = t.piece; from = s.to })
-  stands-kept_rest t kept clear =
-      let none : drop s.to (take s.to s.buffer.items) ≡ [] = drop_all s.to (take s.to s.buffer.items) (omega (arith, length-take s.to s.buffer.items)) in
-      let same : t.piece.items ++ drop s.to (take s.to s.buffer.items) ≡ uncut s = ap (λ x. t.piece.items ++ x) none ∙ append-nil t.piece.items ∙ kept in
+  -- no delimiter stands in the bytes that aren't cut
+  module _ (none : NoneIn s.delimiter (uncut s)) where
+    pub stands-passed_bytes : (c : ℕ) → c ≡ (length s.window.items - s.from + 1) - length s.delimiter → ReaderHolds g (record s { clear = c })
+    stands-passed_bytes c is = record {
+      some = stands.some;
+      inside = stands.inside;
+      window_taken = stands.window_taken;
+      clear = λ k h. none k;
+      clear_fits = fits;
+      at_end = stands.at_end;
+      done = stands.done;
+      within_bound = stands.within_bound;
+      bound_fits = stands.bound_fits;
+      used = stands.used;
+      counted = stands.counted;
+      in_list = stands.in_list;
+      follows = stands.follows;
+    }
+      where
+        fits : (c ≡ 0) ⊎ (c + length s.delimiter ≤ length (uncut s) + 1)
+        fits = elim (cases_lt (length s.window.items - s.from + 1) (length s.delimiter)) [
+          | inl few ↦ inl (omega (arith, is, few))
+          | inr more ↦ inr (omega (arith, is, more, length-uncut))
+        ]
+
+  -- the bytes that are cut were left behind
+  pub stands-dropped : (t : LineReader S) → t.window.items ≡ uncut s → ReaderHolds g (record s { window = t.window; from = 0; spare = t.spare })
+  stands-dropped t is =
+      let same : drop 0 t.window.items ≡ uncut s = is in
       record {
-        ordered = omega arith;
-        inside = stands.inside;
-        size = stands.size;
+        some = stands.some;
+        inside = omega arith;
+        window_taken = omega (arith, ap length is, length-uncut, stands.window_taken);
+        clear = subst (NoneBefore s.delimiter s.clear) (sym same) stands.clear;
+        clear_fits = subst (λ u. (s.clear ≡ 0) ⊎ (s.clear + length s.delimiter ≤ length u + 1)) (sym same) stands.clear_fits;
         at_end = stands.at_end;
         done = λ h. same ∙ stands.done h;
-        clear = subst HasNoFeed (sym kept) (All-append (λ b. is_line_feed b ≡ false) s.piece.items (pending s) stands.clear clear);
         within_bound = stands.within_bound;
         bound_fits = stands.bound_fits;
         used = omega (arith, ap length same, stands.used);
         counted = stands.counted;
         in_list = stands.in_list;
-        follows = λ q. subst (λ u. Follows (told g s.sources.list) s.given s.taken u (rest g u (drop s.at s.sources.list))) (sym same) (stands.follows q);
+        follows = λ q. subst (λ u. Follows s.delimiter (told g s.sources.list) s.given s.taken u (rest g u (drop s.at s.sources.list))) (sym same) (stands.follows q);
       }
 
   -- a source that ended was passed
   pub stands-passed : s.at < length s.sources.list → uncut s ≡ [] → (IsTrue (all_tell g s.sources.list) → Ended g s.sources.list s.at) → ReaderHolds g (record s { at = s.at + 1 })
   stands-passed here empty ended = record {
-    ordered = stands.ordered;
+    some = stands.some;
     inside = stands.inside;
-    size = stands.size;
-    at_end = omega arith;
-    done = λ h. empty;
+    window_taken = stands.window_taken;
     clear = stands.clear;
+    clear_fits = stands.clear_fits;
+    at_end = omega (arith, here);
+    done = λ h. empty;
     within_bound = stands.within_bound;
     bound_fits = stands.bound_fits;
     used = stands.used;
@@ -123,154 +152,54 @@ module _ {S : Type 0} (g : Source.Ghosts S) (s : LineReader S) (stands : ReaderH
     in_list = stands.in_list;
     follows = λ q.
         let e = ended q in
-        subst (λ u. Follows (told g s.sources.list) s.given s.taken u (rest g u (drop (s.at + 1) s.sources.list))) (sym empty)
-        (rest-skip g (told g s.sources.list) s.given s.taken s.sources.list s.at e.at_hand e.found e.none_left
-        (subst (λ u. Follows (told g s.sources.list) s.given s.taken u (rest g u (drop s.at s.sources.list))) empty (stands.follows q)));
+        subst (λ u. Follows s.delimiter (told g s.sources.list) s.given s.taken u (rest g u (drop (s.at + 1) s.sources.list))) (sym empty)
+        (follows-skip s.delimiter stands.some (told g s.sources.list) s.given s.taken e.at_hand.path (rest g [] (drop (s.at + 1) s.sources.list))
+        (follows-ended g s.delimiter (told g s.sources.list) s.given s.taken s.sources.list s.at e.at_hand e.found [] e.none_left
+        (subst (λ u. Follows s.delimiter (told g s.sources.list) s.given s.taken u (rest g u (drop s.at s.sources.list))) empty (stands.follows q))));
   }
 
   -- the last piece of a source that ended
-  module _ (here : s.at < length s.sources.list) (empty : pending s ≡ []) (some : 1 ≤ length s.piece.items) (room : s.taken < s.bound) (ended : IsTrue (all_tell g s.sources.list) → Ended g s.sources.list s.at) where
-    piece_uncut : uncut s ≡ s.piece.items
-    piece_uncut = ap (λ x. s.piece.items ++ x) empty ∙ append-nil s.piece.items
-
-    piece_follows : IsTrue (all_tell g s.sources.list) → Follows (told g s.sources.list) s.given s.taken s.piece.items (rest g s.piece.items (drop s.at s.sources.list))
-    piece_follows q = subst (λ u. Follows (told g s.sources.list) s.given s.taken u (rest g u (drop s.at s.sources.list))) piece_uncut (stands.follows q)
-
-    last_next : (m : Named S) → slice_get s.sources.list s.at ≡ Some m → IsTrue (all_tell g s.sources.list) → (later : List (List Item)) × (drop s.given (batches s.bound (told g s.sources.list)) ≡ (item m.path s.piece.items ∷ []) ∷ later)
-    last_next m at q =
+  module _ (here : s.at < length s.sources.list) (none : NoneIn s.delimiter (uncut s)) (more : 1 ≤ length (uncut s)) (fits : length (uncut s) ≤ LONGEST) (room : s.taken < s.bound) (ended : IsTrue (all_tell g s.sources.list) → Ended g s.sources.list s.at) where
+    last_follows : (q : IsTrue (all_tell g s.sources.list)) (m : Named S) → slice_get s.sources.list s.at ≡ Some m → Follows s.delimiter (told g s.sources.list) s.given s.taken (uncut s) (source m.path (uncut s) ∷ rest g [] (drop (s.at + 1) s.sources.list))
+    last_follows q m at =
         let e = ended q in
         let same : e.at_hand ≡ m = same_Some _ _ (sym e.found ∙ at) in
-        rest-next_last g (told g s.sources.list) s.given s.taken s.sources.list s.at m at s.bound s.piece.items stands.clear some
-        (subst (λ n. length (g.bytes n.source) ≤ g.taken n.source) same e.none_left) room (piece_follows q)
+        follows-ended g s.delimiter (told g s.sources.list) s.given s.taken s.sources.list s.at m at (uncut s) (subst (λ n. length (g.bytes n.source) ≤ g.taken n.source) same e.none_left) (stands.follows q)
 
-    last_leaves : (t : LineReader S) → t.piece.items ≡ [] → t.piece.items ++ pending s ≡ []
-    last_leaves t emptied = ap (λ x. x ++ pending s) emptied ∙ empty
+    pub last_next : (m : Named S) → slice_get s.sources.list s.at ≡ Some m → IsTrue (all_tell g s.sources.list) → (later : List Item) × (drop s.given (source_items s.delimiter s.bound (told g s.sources.list)) ≡ item s.delimiter m.path (uncut s) ∷ later)
+    last_next m at q =
+        next-last s.delimiter stands.some (told g s.sources.list) s.given s.taken m.path (rest g [] (drop (s.at + 1) s.sources.list)) (uncut s) none more fits (last_follows q m at) s.bound room
 
-    last_stands : (t : LineReader S) → t.piece.items ≡ [] → ReaderHolds g (record s { piece = t.piece; at = s.at + 1; given = s.given + 1 })
-    last_stands t emptied =
+    last_leaves : drop (length s.window.items) s.window.items ≡ []
+    last_leaves = drop_all (length s.window.items) s.window.items (omega arith)
+
+    pub stands-last : ReaderHolds g (record s { from = length s.window.items; clear = 0; at = s.at + 1; given = s.given + 1 })
+    stands-last =
         let (m, at) = get-inside s.sources.list s.at here in
         record {
-          ordered = stands.ordered;
-          inside = stands.inside;
-          size = stands.size;
-          at_end = omega arith;
-          done = λ h. last_leaves t emptied;
-          clear = subst HasNoFeed (sym emptied) (λ k d h. absurd (omega arith));
+          some = stands.some;
+          inside = omega arith;
+          window_taken = stands.window_taken;
+          clear = λ k h. absurd (omega (arith, h));
+          clear_fits = inl refl;
+          at_end = omega (arith, here);
+          done = λ h. last_leaves;
           within_bound = stands.within_bound;
           bound_fits = stands.bound_fits;
-          used = omega (arith, ap length (last_leaves t emptied), ap length piece_uncut, stands.used, some);
+          used = omega (arith, ap length last_leaves, stands.used, more);
           counted = stands.counted;
           in_list = λ q. more_than_dropped s.given _ _ _ (last_next m at q).1;
           follows = λ q.
-              let e = ended q in
-              subst (λ u. Follows (told g s.sources.list) (s.given + 1) s.taken u (rest g u (drop (s.at + 1) s.sources.list))) (sym (last_leaves t emptied))
-              (rest-last g (told g s.sources.list) s.given s.taken s.sources.list s.at e.at_hand e.found s.piece.items stands.clear some e.none_left (piece_follows q));
+              subst (λ u. Follows s.delimiter (told g s.sources.list) (s.given + 1) s.taken u (rest g u (drop (s.at + 1) s.sources.list))) (sym last_leaves)
+              (follows-last s.delimiter stands.some (told g s.sources.list) s.given s.taken m.path (rest g [] (drop (s.at + 1) s.sources.list)) (uncut s) none more fits (last_follows q m at));
         }
 
-    pub stands-last : (t : LineReader S) → t ≡ record s { piece = t.piece } → t.piece.items ≡ [] → ReaderHolds g (record t { at = t.at + 1; given = t.given + 1 })
-    stands-last t same emptied = subst (λ u. ReaderHolds g (record u { at = u.at + 1; given = u.given + 1 })) (sym same) (last_stands t emptied)
-
-    pub gives-last : (t : LineReader S) (items : Contents Item) → t ≡ record s { piece = t.piece } → MakesItem s (s.piece.items ++ take 0 (pending s)) items → GivesBatch g s (record t { at = t.at + 1; given = t.given + 1 }) items
-    gives-last t items same makes = subst (λ u. GivesBatch g s (record u { at = u.at + 1; given = u.given + 1 }) items) (sym same) (record {
-      one = ap length makes.made;
+    pub gives-last : (i : Item) → MakesItem s (uncut s) i → GivesLine g s (record s { from = length s.window.items; clear = 0; at = s.at + 1; given = s.given + 1 }) i
+    gives-last i makes = record {
       given = refl;
-      next = λ q. get-dropped s.given _ _ _ (last_next makes.at_hand makes.found q).1 ∙ ap (λ b. Some (item makes.at_hand.path b ∷ [])) (sym (append-nil s.piece.items)) ∙ ap Some (sym makes.made);
-    })
+      next = λ q. get-dropped s.given _ _ _ (last_next makes.at_hand makes.found q).1 ∙ ap Some (sym makes.made);
+    }
 
-module _ {S : Type 0} (g : Source.Ghosts S) (s : LineReader S) (stands : ReaderHolds g s) (empty : pending s ≡ []) where
-  none_pending : s.from ≡ s.to
-  none_pending = omega (arith, length-pending g s stands, ap length empty, stands.ordered)
-
-  pub no_bytes : (buffer : List ℕ) → length buffer ≡ length s.buffer.items → drop s.from (take s.to buffer) ≡ []
-  no_bytes buffer e = drop_all s.from (take s.to buffer) (omega (arith, length-take s.to buffer, none_pending))
-
-  module _ (r : Read) (t : LineReader S) (size : ℕ) (front : List ℕ) (here : ReadsAt g r s.sources.list t.sources.list s.at size front) (as_long : length t.buffer.items ≡ length s.buffer.items) where
-    pub read-kept : SourcesKept g s.sources.list t.sources.list
-    read-kept = subst (SourcesKept g s.sources.list) (sym here.is) (kept-slice_set g s.sources.list s.at here.old here.new here.was here.reads.kept)
-
-    read_length : length t.sources.list ≡ length s.sources.list
-    read_length = kept-length g s.sources.list t.sources.list read-kept
-
-    pub read_found : slice_get t.sources.list s.at ≡ Some here.new
-    read_found = ap (λ ns. slice_get ns s.at) here.is ∙ get-slice_set s.sources.list s.at here.old here.new here.was
-
-    pub read_tells : IsTrue (all_tell g t.sources.list) → IsTrue (g.tells here.new.source)
-    read_tells = tell-at g t.sources.list s.at here.new read_found
-
-    read_taken : taken_count g t.sources.list + g.taken here.old.source ≡ taken_count g s.sources.list + g.taken here.new.source
-    read_taken = ap (λ ns. taken_count g ns + g.taken here.old.source) here.is ∙ taken-slice_set g s.sources.list s.at here.old here.new here.was
-
-    -- a read that takes no byte
-    module _ (same : IsTrue (all_tell g t.sources.list) → g.taken here.new.source ≡ g.taken here.old.source) where
-      quiet_uncut : s.piece.items ++ drop s.from (take s.to t.buffer.items) ≡ uncut s
-      quiet_uncut = ap (λ x. s.piece.items ++ x) (no_bytes t.buffer.items as_long ∙ sym empty)
-
-      quiet_rest : IsTrue (all_tell g t.sources.list) → rest g (uncut s) (drop s.at t.sources.list) ≡ rest g (uncut s) (drop s.at s.sources.list)
-      quiet_rest q =
-          let l : [] ++ left g here.new ≡ left g here.old =
-          ap (λ n. drop n (g.bytes here.new.source)) (same q) ∙ ap (drop (g.taken here.old.source)) (here.reads.kept.same (read_tells q)) in
-          ap (λ ns. rest g (uncut s) (drop s.at ns)) here.is
-          ∙ ap (λ b. rest g b (drop s.at (slice_set s.sources.list s.at here.new))) (sym (append-nil (uncut s)))
-          ∙ rest-read g s.sources.list s.at here.old here.new (uncut s) [] here.was here.reads.kept.path l
-
-      pub stands-quiet : ReaderHolds g (record s { sources = t.sources; buffer = t.buffer })
-      stands-quiet = record {
-        ordered = stands.ordered;
-        inside = omega (arith, stands.inside, as_long);
-        size = as_long ∙ stands.size;
-        at_end = omega (arith, stands.at_end, read_length);
-        done = λ h. quiet_uncut ∙ stands.done (omega (arith, read_length));
-        clear = stands.clear;
-        within_bound = stands.within_bound;
-        bound_fits = stands.bound_fits;
-        used = omega (arith, stands.used, ap length quiet_uncut);
-        counted = λ q. omega (arith, read_taken, same q, stands.counted (tell-kept g s.sources.list t.sources.list read-kept q));
-        in_list = λ q. subst (λ all. s.given ≤ length (batches s.bound all)) (sym (told-kept g s.sources.list t.sources.list read-kept q)) (stands.in_list (tell-kept g s.sources.list t.sources.list read-kept q));
-        follows = λ q.
-            subst (λ all. Follows all s.given s.taken (s.piece.items ++ drop s.from (take s.to t.buffer.items)) (rest g (s.piece.items ++ drop s.from (take s.to t.buffer.items)) (drop s.at t.sources.list)))
-            (sym (told-kept g s.sources.list t.sources.list read-kept q))
-            (subst (λ u. Follows (told g s.sources.list) s.given s.taken u (rest g u (drop s.at t.sources.list))) (sym quiet_uncut)
-            (subst (Follows (told g s.sources.list) s.given s.taken (uncut s)) (sym (quiet_rest q))
-            (stands.follows (tell-kept g s.sources.list t.sources.list read-kept q))));
-      }
-
-    -- a read that takes n bytes
-    module _ (n : ℕ) (room : s.taken + n ≤ s.bound) (some : 1 ≤ n) (fits : n ≤ size) (within_size : size ≤ length s.buffer.items) (fronts : front ≡ take size t.buffer.items) (takes : IsTrue (all_tell g t.sources.list) → (g.taken here.new.source ≡ g.taken here.old.source + n) × (take n front ≡ take n (drop (g.taken here.old.source) (g.bytes here.old.source)))) where
-      more_uncut : s.piece.items ++ drop 0 (take n t.buffer.items) ≡ uncut s ++ take n t.buffer.items
-      more_uncut = ap (λ x. x ++ take n t.buffer.items) (sym (ap (λ x. s.piece.items ++ x) empty ∙ append-nil s.piece.items))
-
-      more_length : length (take n t.buffer.items) ≡ n
-      more_length = omega (arith, length-take n t.buffer.items)
-
-      more_rest : IsTrue (all_tell g t.sources.list) → rest g (uncut s ++ take n t.buffer.items) (drop s.at t.sources.list) ≡ rest g (uncut s) (drop s.at s.sources.list)
-      more_rest q =
-          let b : take n t.buffer.items ≡ take n (left g here.old) =
-          sym (take-take n size t.buffer.items fits) ∙ ap (take n) (sym fronts) ∙ (takes q).1 in
-          let d : left g here.new ≡ drop n (left g here.old) =
-          ap (λ k. drop k (g.bytes here.new.source)) (takes q).0 ∙ ap (drop (g.taken here.old.source + n)) (here.reads.kept.same (read_tells q)) ∙ sym (drop-drop n (g.taken here.old.source) (g.bytes here.old.source)) in
-          let l : take n t.buffer.items ++ left g here.new ≡ left g here.old =
-          ap (λ x. x ++ left g here.new) b ∙ ap (λ x. take n (left g here.old) ++ x) d ∙ take-append-drop n (left g here.old) in
-          ap (λ ns. rest g (uncut s ++ take n t.buffer.items) (drop s.at ns)) here.is
-          ∙ rest-read g s.sources.list s.at here.old here.new (uncut s) (take n t.buffer.items) here.was here.reads.kept.path l
-
-      pub stands-more : s.at < length s.sources.list → ReaderHolds g (record s { sources = t.sources; buffer = t.buffer; from = 0; to = n; taken = s.taken + n })
-      stands-more inside = record {
-        ordered = omega arith;
-        inside = omega (arith, fits, within_size, as_long);
-        size = as_long ∙ stands.size;
-        at_end = omega (arith, stands.at_end, read_length);
-        done = λ h. absurd (omega (arith, read_length));
-        clear = stands.clear;
-        within_bound = room;
-        bound_fits = stands.bound_fits;
-        used = omega (arith, stands.used, ap length more_uncut, length-append (uncut s) (take n t.buffer.items), more_length);
-        counted = λ q. omega (arith, read_taken, (takes q).0, stands.counted (tell-kept g s.sources.list t.sources.list read-kept q));
-        in_list = λ q. subst (λ all. s.given ≤ length (batches s.bound all)) (sym (told-kept g s.sources.list t.sources.list read-kept q)) (stands.in_list (tell-kept g s.sources.list t.sources.list read-kept q));
-        follows = λ q.
-            subst (λ all. Follows all s.given (s.taken + n) (s.piece.items ++ drop 0 (take n t.buffer.items)) (rest g (s.piece.items ++ drop 0 (take n t.buffer.items)) (drop s.at t.sources.list)))
-            (sym (told-kept g s.sources.list t.sources.list read-kept q))
-            (subst (λ u. Follows (told g s.sources.list) s.given (s.taken + n) u (rest g u (drop s.at t.sources.list))) (sym more_uncut)
-            (subst (Follows (told g s.sources.list) s.given (s.taken + n) (uncut s ++ take n t.buffer.items)) (sym (more_rest q))
-            (follows-read (told g s.sources.list) s.given s.taken n (uncut s) (take n t.buffer.items) (rest g (uncut s) (drop s.at s.sources.list)) more_length
-            (stands.follows (tell-kept g s.sources.list t.sources.list read-kept q)))));
-      }
+-- the bytes at which no delimiter stands are among those that aren't cut
+pub clear_inside : {S : Type 0} (g : Source.Ghosts S) (s : LineReader S) → ReaderHolds g s → s.clear ≤ length (uncut s)
+clear_inside g s stands = elim stands.clear_fits [ inl z ↦ omega (arith, z) | inr fits ↦ omega (arith, fits, stands.some) ]

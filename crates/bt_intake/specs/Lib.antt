@@ -1,8 +1,9 @@
-pub mod Lines
+pub mod Answers
+pub mod Batches
+pub mod Ending
+pub mod Gathering
+pub mod Inside
+pub mod Reader
+pub mod Reading
 pub mod Sources
 pub mod View
-pub mod Answers
-pub mod Progress
-pub mod Reading
-pub mod Reader
-pub mod Inside

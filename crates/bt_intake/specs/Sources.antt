@@ -4,7 +4,7 @@ use Rattle.std.specs.List.{list_all, AllZip}
 use Rattle.bt_ports.specs.Faults.{Rose}
 use Rattle.bt_ports.specs.declared.parts.Named.{Named}
 use Rattle.bt_ports.specs.declared.outside.Source as Source
-use Rattle.bt_intake.specs.Lines.{SourceBytes}
+use Rattle.bt_lines.specs.Lines.{SourceBytes}
 
 -- whether each of them tells
 abbrev pub all_tell : {S : Type 0} → Source.Ghosts S → List (Named S) → Bool

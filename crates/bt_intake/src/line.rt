@@ -1,19 +1,56 @@
-//! One line: where it ends, and its bytes.
-ghost use Rattle.std.specs.Prelude.{◌≡◌, ℕ, ◌+◌, ◌<◌, [], ◌++◌, IfOk, OnErr, MatchOption};
+//! One line: where it ends, whether it may still be short, and its bytes.
+ghost use Rattle.std.specs.Prelude.{◌≡◌, ℕ, ◌≤◌, [], ◌∷◌, length, IfOk, None, MatchOption, MatchBool};
 ghost use Rattle.std.specs.Io.BufRead.{strip_last};
-ghost use Rattle.bt_intake.specs.Progress.{HasNoFeed, FeedAt};
+ghost use Rattle.bt_lines.specs.Lines.{item};
+ghost use Rattle.bt_lines.specs.Pieces.{NoneIn, FirstAt};
+ghost use Rattle.bt_intake.specs.Ending.{MayEnd, IsTooLong};
 
+use bt_lines::LONGEST;
 use bt_ports::NoMemory;
 use bt_ports::blob::Blob;
-use memchr::memchr;
+use memchr::{memchr, memmem};
 use std::alloc::Global;
-use std::mem;
 
-/// The place of the first line feed.
-pub(crate) fn first_line_feed(bytes: &[u8]) -> Option<usize>
-    ensures { MatchOption result (HasNoFeed bytes.now) (λ n. FeedAt bytes.now n) }
+/// The place of the first delimiter.
+pub(crate) fn first_place(bytes: &[u8], delimiter: &[u8]) -> Option<usize>
+    requires { 1 ≤ length delimiter.now }
+    ensures { MatchOption result (NoneIn delimiter.now bytes.now) (λ n. FirstAt delimiter.now bytes.now n) }
 {
-    memchr(b'\n', bytes)
+    match delimiter {
+        [byte] => first_byte(bytes, *byte),
+        _ => first_needle(bytes, delimiter),
+    }
+}
+
+fn first_byte(bytes: &[u8], byte: u8) -> Option<usize>
+    ensures { MatchOption result (NoneIn (byte ∷ []) bytes.now) (λ n. FirstAt (byte ∷ []) bytes.now n) }
+{
+    memchr(byte, bytes)
+}
+
+fn first_needle(bytes: &[u8], needle: &[u8]) -> Option<usize>
+    requires { 1 ≤ length needle.now }
+    ensures { MatchOption result (NoneIn needle.now bytes.now) (λ n. FirstAt needle.now bytes.now n) }
+{
+    memmem::find(bytes, needle)
+}
+
+/// Whether the delimiter may still end a line of these bytes, in which it doesn't stand, before it is too long.
+pub(crate) fn may_end(bytes: &[u8], delimiter: &[u8]) -> bool
+    requires { 1 ≤ length delimiter.now }
+    ensures { MatchBool result (MayEnd delimiter.now bytes.now) (IsTooLong delimiter.now bytes.now) }
+{
+    if bytes.len() <= LONGEST {
+        return true;
+    }
+    let mut place = (bytes.len() + 1).saturating_sub(delimiter.len());
+    'places: while place <= LONGEST {
+        if delimiter.starts_with(&bytes[place..]) {
+            return true;
+        }
+        place += 1;
+    }
+    false
 }
 
 /// The bytes without one carriage return at their end.
@@ -26,22 +63,13 @@ fn without_carriage_return(bytes: &[u8]) -> &[u8]
     }
 }
 
-/// Takes the line that begins with the bytes of `piece` and ends with `last`, and leaves `piece` empty.
-pub(crate) fn take_line(alloc: Global, piece: &mut Vec<u8>, last: &[u8]) -> Result<Blob, NoMemory>
-    ensures line { IfOk result (λ line. line ≡ strip_last 13 (piece.old.items ++ last.now)) }
-    ensures emptied { IfOk result (λ _. piece.new.items ≡ []) }
-    ensures err { OnErr result (piece.new.items ≡ piece.old.items) }
+/// The bytes of an item that a line makes.
+pub(crate) fn item_bytes(alloc: Global, line: &[u8], delimiter: &[u8]) -> Result<Blob, NoMemory>
+    ensures { IfOk result (λ bytes. bytes ≡ (item delimiter.now None line.now).bytes) }
 {
-    if piece.is_empty() {
-        return Blob::make(alloc, without_carriage_return(last));
+    if delimiter == b"\n".as_slice() {
+        Blob::make(alloc, without_carriage_return(line))
+    } else {
+        Blob::make(alloc, line)
     }
-    match piece.extend_from_slice(last) {
-        Ok(()) => {}
-        Err(_) => return Err(NoMemory),
-    }
-    let mut line = mem::replace(piece, Vec::new(alloc));
-    if line.last() == Some(&b'\r') {
-        line.pop();
-    }
-    Ok(Blob::from_vec(line))
 }

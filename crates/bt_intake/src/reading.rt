@@ -1,5 +1,5 @@
 //! One read of a source of a list.
-ghost use Rattle.std.specs.Prelude.{◌≡◌, ℕ, ◌<◌, ◌≤◌, length, take, IsTrue};
+ghost use Rattle.std.specs.Prelude.{◌≡◌, ℕ, ◌-◌, ◌<◌, ◌≤◌, length, take, drop, IsTrue};
 ghost use Rattle.bt_ports.specs.Source.{ReadFits, ReadFaults, ReadTakes};
 ghost use Rattle.bt_intake.specs.Reading.{Reads, ReadsAt};
 
@@ -54,34 +54,34 @@ fn read_at<S: Readable>(sources: &mut Sources<S>, at: usize, buffer: &mut [u8]) 
     }
 }
 
-// One read of the source at place `at` into the first `size` bytes of the buffer.
+// One read of the source at place `at` into the bytes of the buffer behind the first `from`.
 fn read_into<S: Readable>(
     sources: &mut Sources<S>,
     at: usize,
     buffer: &mut [u8],
-    size: usize,
+    from: usize,
 ) -> Read
     requires here { at < length sources.old.list }
-    requires room { 0 < size }
-    requires fits { size ≤ length buffer.old }
-    ensures { ReadsAt S.shown result sources.old.list sources.new.list at size (take size buffer.new) }
+    requires room { from < length buffer.old }
+    ensures reads { ReadsAt S.shown result sources.old.list sources.new.list at (length buffer.old - from) (drop from buffer.new) }
+    ensures kept { take from buffer.new ≡ take from buffer.old }
 {
-    let (front, _) = buffer.split_at_mut(size);
-    read_at(sources, at, front)
+    let (_, tail) = buffer.split_at_mut(from);
+    read_at(sources, at, tail)
 }
 
-/// One read of the source at place `at` into the first `size` bytes of the buffer.
-pub(crate) fn read_front<S: Readable>(
+/// One read of the source at place `at` into the bytes of the buffer behind the first `from`.
+pub(crate) fn read_behind<S: Readable>(
     sources: &mut Sources<S>,
     at: usize,
     buffer: &mut Vec<u8>,
-    size: usize,
+    from: usize,
 ) -> Read
     requires here { at < length sources.old.list }
-    requires room { 0 < size }
-    requires fits { size ≤ length buffer.old.items }
-    ensures reads { ReadsAt S.shown result sources.old.list sources.new.list at size (take size buffer.new.items) }
+    requires room { from < length buffer.old.items }
+    ensures reads { ReadsAt S.shown result sources.old.list sources.new.list at (length buffer.old.items - from) (drop from buffer.new.items) }
+    ensures kept { take from buffer.new.items ≡ take from buffer.old.items }
     ensures len { length buffer.new.items ≡ length buffer.old.items }
 {
-    read_into(sources, at, buffer.as_mut_slice(), size)
+    read_into(sources, at, buffer.as_mut_slice(), from)
 }

@@ -1,17 +1,20 @@
-//! Lines of sources in memory, given one after the other.
+//! Lines of sources in memory, given in batches.
 //!
 //! A case is a line of the standard input: named fields with a semicolon between. `sources` are the sources' bytes with a
-//! comma between, each behind its path and a colon where it has one; in them a bar stands for a line feed and a caret for
-//! a carriage return. `piece` is how many bytes a read gives at most, `fail` the number, counted from 1, of each source's
-//! read that fails, and `bound` the bytes that are taken at most; `fill` bytes more stand at each source's front. What the
-//! intake gives is printed behind the line: each item behind its path, in brackets, one of more than 40 bytes by its
-//! length, and the answer other than a batch. With `sizes` the lengths of the buffers that were read into stand behind it.
+//! comma between, each behind its path and a colon where it has one; in them a bar stands for a line feed, a caret for
+//! a carriage return and a tilde for 65,536 bytes `x`. `delimiter` is written alike, and a line feed where it isn't there.
+//! `count` and `size` are the policy's. `piece` is how many bytes a read gives at most, `fail` the number, counted from 1, of
+//! each source's read that fails, and `bound` the bytes that are taken at most; `fill` bytes more stand at each source's
+//! front. What the intake gives is printed behind the line, a blank before each batch: each item behind its path, in
+//! brackets, one of more than 40 bytes by its length, and the answer other than a batch. With `sizes` the lengths of the
+//! buffers that were read into stand behind it.
 #![tactic(auto)]
 
-ghost use Rattle.std.specs.Prelude.{◌≡◌, ◌≤◌, ◌^◌, IfOk, true};
+ghost use Rattle.std.specs.Prelude.{◌≡◌, ◌≤◌, ◌^◌, length, IfOk, true};
 ghost use Rattle.std.specs.List.{All};
 
 use bt_intake::intake::LineIntake;
+use bt_intake::policy::Policy;
 use bt_ports::NoMemory;
 use bt_ports::blob::Blob;
 use bt_ports::memory::source::MemSource;
@@ -21,6 +24,9 @@ use bt_ports::sequence::Sequence;
 use bt_ports::text::Text;
 use std::alloc::Global;
 use std::io;
+
+/// The longest line.
+static LONG: [u8; 65_536] = [b'x'; 65_536];
 
 // The value of the field of that name, which is empty where there is none.
 fn field<'a>(line: &'a str, name: &str) -> &'a str {
@@ -70,13 +76,26 @@ fn bytes_of(alloc: Global, fill: u64, text: &str) -> Result<Blob, NoMemory> {
         bytes.push(b'x')?;
     }
     for byte in text.as_bytes() {
-        bytes.push(match *byte {
-            b'|' => b'\n',
-            b'^' => b'\r',
-            other => other,
-        })?;
+        match *byte {
+            b'|' => bytes.push(b'\n')?,
+            b'^' => bytes.push(b'\r')?,
+            b'~' => bytes.extend_from_slice(&LONG)?,
+            other => bytes.push(other)?,
+        }
     }
     Ok(Blob::from_vec(bytes))
+}
+
+// The delimiter of the case, or a line feed where it has none of 1 to 16 bytes.
+fn delimiter(alloc: Global, line: &str) -> Result<Blob, NoMemory>
+    ensures { IfOk result (λ d. (1 ≤ length d) × (length d ≤ 16)) }
+{
+    let bytes = bytes_of(alloc, 0, field(line, "delimiter"))?;
+    let length = bytes.as_slice().len();
+    if length == 0 || length > 16 {
+        return Blob::make(alloc, b"\n".as_slice());
+    }
+    Ok(bytes)
 }
 
 // A source of which nothing was taken.
@@ -111,10 +130,10 @@ fn sources(alloc: Global, line: &str) -> Result<Sources<Measured>, NoMemory>
 
 fn push_bytes(text: &mut String, bytes: &[u8]) -> Result<(), NoMemory> {
     for byte in bytes {
-        text.push(if *byte == b'\r' {
-            '^'
-        } else {
-            char::from(*byte)
+        text.push(match *byte {
+            b'\n' => '|',
+            b'\r' => '^',
+            other => char::from(other),
         })?;
     }
     Ok(())
@@ -132,8 +151,9 @@ fn push_sizes(text: &mut String, sources: &[Named<Measured>]) -> Result<(), NoMe
 }
 
 fn push_items(text: &mut String, items: &Items) -> Result<(), NoMemory> {
+    text.push(' ')?;
     for item in items.as_slice() {
-        text.push_str(" [")?;
+        text.push('[')?;
         if let Some(path) = &item.path {
             write!(text, "{}:", path.as_str())?;
         }
@@ -151,7 +171,17 @@ fn push_items(text: &mut String, items: &Items) -> Result<(), NoMemory> {
 // What the intake of the case gives.
 fn given(alloc: Global, line: &str) -> Result<String, NoMemory> {
     let bound = number(line, "bound").min(1_000_000);
-    let mut intake = LineIntake::make(alloc, sources(alloc, line)?, bound)?;
+    let policy = Policy {
+        count: number(line, "count").min(1000) as u32,
+        byte_size: number(line, "size"),
+    };
+    let mut intake = LineIntake::make(
+        alloc,
+        sources(alloc, line)?,
+        delimiter(alloc, line)?,
+        policy,
+        bound,
+    )?;
     let mut text = String::new(alloc);
     'answers: for _ in 0..1000 {
         let last = match intake.next() {
@@ -161,7 +191,10 @@ fn given(alloc: Global, line: &str) -> Result<String, NoMemory> {
             }
             Next::End => " end",
             Next::Failed => " failed",
-            Next::LongLine(_) => " long line",
+            Next::LongLine(n) => {
+                write!(text, " line {n} is too long")?;
+                break;
+            }
             Next::Bound => " bound",
             Next::NoMemory => " no memory",
         };

@@ -163,6 +163,12 @@ module _ (d : List ℕ) (some : 1 ≤ length d) where
         | inr e ↦ ap (first_long n) (other _ _ _ e) ∙ first-short n (line p piece false) [] h
       ]
 
+  pub cut_piece-some : (p : Option (List ℕ)) (piece : List ℕ) → 1 ≤ length piece → cut_piece p piece ≡ line p piece false ∷ []
+  cut_piece-some p piece h = other _ _ _ (ne_eqb _ _ (λ (z : length piece ≡ 0). omega (arith, h, z)))
+
+  pub first-cut_long : (n : ℕ) (p : Option (List ℕ)) (piece : List ℕ) → LONGEST < length piece → first_long n (cut_piece p piece) ≡ Some n
+  first-cut_long n p piece h = ap (first_long n) (cut_piece-some p piece (omega (arith, h))) ∙ first-long n (line p piece false) [] h
+
   -- following ----------------------------------------------------------------------------------------------------------------------
 
   -- nothing was taken and nothing cut

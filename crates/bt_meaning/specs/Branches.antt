@@ -16,6 +16,7 @@ use Rattle.bt_kinds.specs.declared.kinds.Kind.{Kind}
 use Rattle.bt_meaning.specs.Contexts.{Where, Sense, with_this}
 use Rattle.bt_meaning.specs.Outcomes.{then_value, truth, passes}
 
+-- what the branch gives where its condition is true, and the rest where it is false; no boolean is a wrong type of this kind
 abbrev pub chosen : Option Bool → Kind → Out → Out → Out
 chosen (Some true) kd x y = x
 chosen (Some false) kd x y = y
@@ -31,6 +32,7 @@ abbrev pub branches : List (Branch Sense) → Option Sense → Where → Out
 branches [] e c = otherwise e c
 branches (b ∷ bs) e c = then_value (codes "if") (b.test.at c) (λ x. chosen (truth x) (kind_of x) (b.gives.at c) (branches bs e c))
 
+-- the value of an outcome
 abbrev pub negated : Out → Option Val
 negated (Value x) = Some x
 negated o = None

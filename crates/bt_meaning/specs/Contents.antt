@@ -20,6 +20,7 @@ abbrev pub in_profile : Option Val → Result Val ContentFault
 in_profile (Some x) = Ok x
 in_profile None = Err OutOfProfile
 
+-- the value of data that JSON reads, where there is such data
 abbrev pub read_as : Option Data → Result Val ContentFault
 read_as (Some d) = in_profile (of_data d)
 read_as None = Err NotJson
@@ -38,6 +39,7 @@ this_given (Err OutOfProfile) = Failed (codes "this: number out of profile")
 abbrev pub this_of : List ℕ → Out
 this_of content = this_given (document content)
 
+-- the text of a failure
 abbrev pub failure_in : Out → Option (List ℕ)
 failure_in (Failed t) = Some t
 failure_in _ = None
@@ -56,6 +58,7 @@ root_given (Err OutOfProfile) = r.Unread (codes "root: number out of profile")
 abbrev pub json_of : Val → Option (List ℕ)
 json_of x = if has_bytes x then written x else Some (text x)
 
+-- by the kind of the value
 abbrev content_at : Option (List ℕ) → Val-F Val → Option (List ℕ)
 content_at json (Val-F.Str s) = Some s
 content_at json (Val-F.Bytes b) = Some b

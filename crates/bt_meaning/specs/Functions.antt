@@ -83,6 +83,7 @@ abbrev pub with_part : Result ℤ Out → (ℤ → Out) → Out
 with_part (Ok n) go = go n
 with_part (Err o) go = o
 
+-- the same with an outcome that must be a number
 abbrev pub with_number : Out → (ℤ → Out) → Out
 with_number o go = with_part (part_of (codes "range") number o) go
 
@@ -99,6 +100,7 @@ range_of os = with_number (first os) (λ a. with_number (first (rest os)) (λ b.
 abbrev pub three_digits : ℕ → List ℕ
 three_digits n = digit (n / 100) ∷ digit (n / 10) ∷ digit n ∷ []
 
+-- a second's text up to its seconds, and then its milliseconds and `Z`; a second out of the years has none
 abbrev pub with_millis : Result (List ℕ) TimeFault → ℕ → Out
 with_millis (Ok t) millis = Value (v.Str (t ++ codes "." ++ three_digits millis ++ codes "Z"))
 with_millis (Err e) millis = out_of_range (codes "now")

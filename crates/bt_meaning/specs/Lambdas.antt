@@ -44,6 +44,7 @@ replaced old (Failed t) = Err (Failed t)
 replaced old Deleted = Ok None
 replaced old Nothing = Ok (Some old)
 
+-- the elements of a list, replaced
 abbrev pub each : Arg Sense → List Val → Where → Result (List Val) Out
 each f [] c = Ok []
 each f (x ∷ xs) c = one_more (replaced x (element f x c)) (each f xs c)
@@ -86,6 +87,7 @@ abbrev pub list_of : Result (List Val) Out → Out
 list_of (Ok xs) = Value (v.Arr xs)
 list_of (Err o) = o
 
+-- members as an object, which nests no deeper than before
 abbrev pub object_from : Result Pairs Out → Out
 object_from (Ok ms) = Value (v.Obj ms)
 object_from (Err o) = o
@@ -103,10 +105,12 @@ kept a (Failed t) = Err (Failed t)
 kept a Deleted = Ok None
 kept a Nothing = Ok None
 
+-- the elements for which the query is true
 abbrev pub filtered : Arg Sense → List Val → Where → Result (List Val) Out
 filtered f [] c = Ok []
 filtered f (x ∷ xs) c = one_more (kept x (element f x c)) (filtered f xs c)
 
+-- the members for which it is true
 abbrev pub filtered_members : Arg Sense → Pairs → Where → Result Pairs Out
 filtered_members f [] c = Ok []
 filtered_members f (m ∷ ms) c = one_more (kept m (element f (member_element m) c)) (filtered_members f ms c)
@@ -117,6 +121,7 @@ filter f c x = list_or_object (codes "filter") (array x) (object x) (λ xs. list
 
 -- any and all -----------------------------------------------------------
 
+-- one true decides, and else the rest does
 abbrev pub any_next : Result Bool Out → Out → Out
 any_next (Ok true) rest = Value (v.Bool true)
 any_next (Ok false) rest = rest
@@ -131,6 +136,7 @@ any_of f (x ∷ xs) c = any_next (part_of (codes "any") boolean (element f x c))
 abbrev pub any : Arg Sense → Where → Val → Out
 any f c x = on (codes "any") (array x) (λ xs. any_of f xs c)
 
+-- one false decides, and else the rest does
 abbrev pub all_next : Result Bool Out → Out → Out
 all_next (Ok true) rest = rest
 all_next (Ok false) rest = Value (v.Bool false)
@@ -192,6 +198,7 @@ keys_from part f i (x ∷ xs) c = one_more (placed i (part_of (codes "sort_by") 
 abbrev pub key_cmp : {A : Type 0} → (A → A → Ordering) → A × ℕ → A × ℕ → Ordering
 key_cmp cmp p q = ordering_then (cmp p.0 q.0) (nat_cmp p.1 q.1)
 
+-- what there is, as a list
 abbrev pub alone : Option Val → List Val
 alone (Some x) = x ∷ []
 alone None = []
@@ -211,6 +218,7 @@ sorted_as (Ok n) string_key f xs c = in_order int_cmp xs (keys_from number f 0 x
 sorted_as (Err kd) (Ok s) f xs c = in_order (slice_cmp nat_cmp) xs (keys_from string f 0 xs c)
 sorted_as (Err kd) (Err kind) f xs c = wrong (codes "sort_by") kind
 
+-- a list without elements is sorted; else the kind of its first key decides
 abbrev pub sorted_by : Arg Sense → List Val → Where → Out
 sorted_by f [] c = Value (v.Arr [])
 sorted_by f (x ∷ xs) c = then_value (codes "sort_by") (element f x c) (λ key. sorted_as (number key) (string key) f (x ∷ xs) c)

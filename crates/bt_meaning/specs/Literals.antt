@@ -34,9 +34,11 @@ abbrev pub as_list : List ℕ → Result (List Val) Out → Out
 as_list name (Ok xs) = limited name (v.Arr xs)
 as_list name (Err o) = o
 
+-- a list literal
 abbrev pub list_value : List Sense → Where → Out
 list_value qs c = as_list (codes "literal") (gathered qs c)
 
+-- a member put in, unless it is deleted or nothing
 abbrev pub with_member : List ℕ → Out → Pairs → Pairs
 with_member n (Value x) got = put n x got
 with_member n o got = got
@@ -46,5 +48,6 @@ abbrev pub members : List (Member Sense) → Where → Pairs → Out
 members [] c got = limited (codes "literal") (v.Obj got)
 members (x ∷ xs) c got = if is_failed (x.query.at c) then x.query.at c else members xs c (with_member x.key (x.query.at c) got)
 
+-- an object literal
 abbrev pub object_value : List (Member Sense) → Where → Out
 object_value xs c = members xs c []

@@ -26,6 +26,7 @@ use Rattle.bt_meaning.specs.declared.state.State.{State}
 unfoldable pub failed_assignment : ℕ → List ℕ → List ℕ
 failed_assignment line t = codes "failed assignment (line " ++ decimal line ++ codes "): " ++ t
 
+-- a failure with the line of its statement
 abbrev pub in_line : ℕ → Result State (List ℕ) → Result State (List ℕ)
 in_line line (Ok s) = Ok s
 in_line line (Err t) = Err (failed_assignment line t)
@@ -57,6 +58,7 @@ maps_of (m.Statements ss) = ss
 abbrev pub top : Mapping → Msg → Spot → Where
 top m msg spot = record { this = this_of msg.content; names = []; vars = []; root = Value v.Null; msg = msg; spot = spot; apply = applied (length (maps_of m)) (maps_of m) msg spot }
 
+-- the root at the start: unset, or the document of the message that is handed in
 abbrev pub start_root : Option Msg → Root
 start_root None = Unset
 start_root (Some m) = root_given (document m.content)
@@ -65,6 +67,7 @@ start_root (Some m) = root_given (document m.content)
 abbrev pub start : Msg → Option Msg → State
 start msg root = record { root = start_root root; meta = (unwrap_or root msg).meta; vars = [] }
 
+-- the message with this content and metadata; bytes in the document that are no text have no content
 abbrev pub with_content : Msg → Pairs → Option (List ℕ) → Mapped
 with_content base meta (Some b) = Changed (record base { content = b; meta = meta })
 with_content base meta None = Flagged (codes "root: bad text")
@@ -76,6 +79,7 @@ ended base meta (Set x) = with_content base meta (content_of x)
 ended base meta Unset = Changed (record base { meta = meta })
 ended base meta (Unread t) = Changed (record base { meta = meta })
 
+-- what becomes of a message where its statements ran, or one of them failed
 abbrev pub finished : Msg → Result State (List ℕ) → Mapped
 finished base (Ok s) = ended base s.meta s.root
 finished base (Err t) = Flagged t

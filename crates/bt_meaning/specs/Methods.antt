@@ -51,6 +51,7 @@ caught o q = if is_failed o then q else o
 abbrev pub ored : Out → Out → Out
 ored o q = if settles o then o else q
 
+-- the method of the arguments' outcomes; a failure among them stands
 abbrev pub called_on : MethodId → Out → Result (List Out) Out → Out
 called_on id target (Ok os) = called id target os
 called_on id target (Err o) = o

@@ -13,6 +13,7 @@ use Rattle.bt_kinds.specs.declared.kinds.Kind.TheVariants as k
 use Rattle.bt_meaning.specs.Contexts.{Where, Sense}
 use Rattle.bt_meaning.specs.Outcomes.{then_value, is_failed, truth, settles}
 
+-- the kinds of operands: a number
 abbrev pub is_number : Kind → Bool
 is_number k.Number = true
 is_number _ = false
@@ -24,6 +25,7 @@ is_number_or_text k.String = true
 is_number_or_text k.Bytes = true
 is_number_or_text _ = false
 
+-- a boolean
 abbrev pub is_boolean : Kind → Bool
 is_boolean k.Bool = true
 is_boolean _ = false
@@ -65,6 +67,7 @@ abbrev pub terms : List (Term Sense) → Where → Out → Out
 terms [] c got = got
 terms (t ∷ ts) c got = if is_failed got then got else terms ts c (operands t.op got (t.query.at c))
 
+-- whether it is the boolean w
 abbrev pub is_bool : Bool → Option Bool → Bool
 is_bool true (Some b) = b
 is_bool false (Some true) = false

@@ -24,16 +24,19 @@ abbrev pub or_wrong : {A : Type 0} → List ℕ → Result A Kind → Result A O
 or_wrong name (Ok a) = Ok a
 or_wrong name (Err kd) = Err (wrong name kd)
 
+-- the same of an outcome
 abbrev pub part_of : {A : Type 0} → List ℕ → (Val → Result A Kind) → Out → Result A Out
 part_of name part (Value x) = or_wrong name (part x)
 part_of name part (Failed t) = Err (Failed t)
 part_of name part Deleted = Err (wrong name k.Deleted)
 part_of name part Nothing = Err (wrong name k.Nothing)
 
+-- whether it is a failure
 abbrev pub is_failed : Out → Bool
 is_failed (Failed t) = true
 is_failed o = false
 
+-- by the kind of the value
 abbrev truth_at : Val-F Val → Option Bool
 truth_at (Val-F.Bool b) = Some b
 truth_at _ = None
@@ -51,10 +54,12 @@ abbrev pub passes : Out → Bool
 passes (Value x) = is_true x
 passes o = false
 
+-- by the kind of the value
 abbrev is_null_at : Val-F Val → Bool
 is_null_at Val-F.Null = true
 is_null_at _ = false
 
+-- whether it is null
 unfoldable pub is_null : Val → Bool
 is_null x = is_null_at (out-Val x)
 

@@ -43,13 +43,16 @@ set_found None too_deep = Err (codes "root: path through a value that is not an 
 set_found (Some d) true = Err (codes "root: too deep")
 set_found (Some d) false = Ok (Set d)
 
+-- a value put at a path in a document; the value itself is a step, so the path and its depth make up the depth
 abbrev pub set_in : List (List ℕ) → Val → Val → Result Root (List ℕ)
 set_in ns x d = set_found (set_at ns x d) (nat_lt 127 (length ns + depth x))
 
+-- the same below the root, where it has a document
 abbrev pub put_below : List (List ℕ) → Val → Result Val (List ℕ) → Result Root (List ℕ)
 put_below ns x (Ok d) = set_in ns x d
 put_below ns x (Err t) = Err t
 
+-- what stands at a path taken away
 abbrev pub delete_below : List (List ℕ) → Result Val (List ℕ) → Result Root (List ℕ)
 delete_below ns (Ok d) = Ok (Set (without_at ns d))
 delete_below ns (Err t) = Err t
@@ -88,14 +91,17 @@ abbrev pub meta_assigned : Option Key → Out → Pairs → Result Pairs (List �
 meta_assigned (Some n) o xs = bound (key_text n) o xs
 meta_assigned None o xs = meta_all o xs
 
+-- a state after an assignment to its root, or why it failed
 abbrev pub with_root : State → Result Root (List ℕ) → Result State (List ℕ)
 with_root s (Ok r) = Ok (record s { root = r })
 with_root s (Err t) = Err t
 
+-- the same to its variables
 abbrev pub with_vars : State → Result Pairs (List ℕ) → Result State (List ℕ)
 with_vars s (Ok xs) = Ok (record s { vars = xs })
 with_vars s (Err t) = Err t
 
+-- the same to its metadata
 abbrev pub with_meta : State → Result Pairs (List ℕ) → Result State (List ℕ)
 with_meta s (Ok xs) = Ok (record s { meta = xs })
 with_meta s (Err t) = Err t

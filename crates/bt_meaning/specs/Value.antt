@@ -61,6 +61,7 @@ value_of (Query-F.If bs e) c = branches bs e c
 abbrev pub sense_of : Query-F Sense → Sense
 sense_of q = record { literal = literal_of q; text = written q; at = value_of q }
 
+-- a query by its parts, from the innermost on
 abbrev pub sense : Query → Sense
 sense = fold-Query Sense sense_of
 

@@ -9,6 +9,7 @@ use Rattle.bt_contexts.specs.declared.context.Got.{Got}
 use Rattle.bt_meaning.specs.Value.{value}
 use Rattle.bt_contexts.specs.Seen.{seen, out_of}
 
+-- It takes any query and context, and what it gives is the value.
 pub record Serves (room : ℕ) (pre : Global → ℕ → Bor Query → Bor Ctx → Type 0)
     (post : Global → ℕ → Bor Query → Bor Ctx → Result Got NoMemory → Type 0) : Type 0 where
   pub callable : (alloc : Global) (q : Bor Query) (c : Bor Ctx) → pre alloc room q c

@@ -1,13 +1,13 @@
 use Rattle.std.proofs.Common.{refl, ◌∙◌, subst}
-use Rattle.bt_ports.specs.Intake.{NextFaults}
+use Rattle.bt_intake.specs.Reader.{LineFaults}
 use Rattle.bt_intake.specs.Sources.{fault_count}
 use Rattle.bt_intake.proofs.Turns.{goes-still, goes-then, answers-then}
 use Rattle.bt_intake.proofs.reader.LineReader.next.Goals as goal
 
 pub steps-init : goal.steps-init
 steps-init g c = record {
-  stands = c.requires.stands;
-  goes = goes-still g.S.Readable.shown c.args.self.now c.args.self.now refl refl refl;
+  holds = c.requires.holds;
+  goes = goes-still g.S.Readable.shown c.args.self.now c.args.self.now refl refl refl refl;
   given = refl;
   faults = refl;
 }
@@ -17,7 +17,7 @@ steps-preserved g c =
     let i = c.steps.invariant in
     let e = c.in_default.ensures in
     record {
-      stands = e.stands;
+      holds = e.holds;
       goes = goes-then g.S.Readable.shown c.args.self.now c.steps.self c.step.new.self i.given i.goes e.goes;
       given = e.steps.0 ∙ i.given;
       faults = e.faults ∙ i.faults;
@@ -36,4 +36,4 @@ returns-in-Some-clause-answers g c =
 pub returns-in-Some-clause-faults : goal.returns-in-Some-clause-faults
 returns-in-Some-clause-faults g c =
     let i = c.steps.invariant in
-    subst (λ n. NextFaults c.in-Some.answer n (fault_count g.S.Readable.shown c.step.new.self.sources.list)) i.faults c.in-Some.ensures.faults
+    subst (λ n. LineFaults c.in-Some.answer n (fault_count g.S.Readable.shown c.step.new.self.sources.list)) i.faults c.in-Some.ensures.faults

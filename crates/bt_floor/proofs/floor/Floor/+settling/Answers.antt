@@ -1,0 +1,129 @@
+use Rattle.std.proofs.Common.{◌≡◌, ◌≢◌, ℕ, ◌+◌, ◌<◌, ◌≤◌, arith, refl, sym, ap, ◌∙◌, subst, List, length, set, get_or, Option, Some, None, true, false, IsTrue, Bool, inl, inr}
+use Rattle.bt_demand.specs.Find.{begun, below}
+use Rattle.bt_demand.specs.Flushing.{Still}
+use Rattle.bt_demand.specs.Next.{todo}
+use Rattle.bt_demand.specs.Steps.{settle, wait, release, state_for}
+use Rattle.bt_demand.specs.declared.todo.Todo.TheVariants.{Put, Wait, Settled}
+use Rattle.bt_ledger.specs.Calls.{waited, entry_of}
+use Rattle.bt_ledger.specs.Due.{LeastDue, unanswered}
+use Rattle.bt_ledger.specs.Ledger.{Ledger, slot_at, part_tree, parts_in, is_given, IsPart, IsGiven, Roomy, with_part, with_slot, open_in, answered_in, chain_at}
+use Rattle.bt_ledger.specs.declared.slot.Slot.{Slot}
+use Rattle.bt_ledger.specs.declared.slot.Slot.TheVariants.{Free, Out, Given}
+use Rattle.bt_demand.specs.Reached.{NextIn}
+use Rattle.bt_moves.specs.Moves.{left_to_do, Keeps, KeepsBut, StepAt, Answering, Popped}
+use Rattle.bt_moves.specs.Resting.{AtRest}
+use Rattle.bt_demand.proofs.Flushing.{late_next}
+use Rattle.bt_moves.proofs.Keeping.{but_same, but_step, but_keeps, but_closes, keeps_same, keeps_joins, keeps_but, closed_quiet, closed_rest, begun_room, part_stays, given_true, but_joins}
+use Rattle.bt_moves.proofs.Moves.{step_with, step_same, step_joins, part_with, put_falls, wait_falls, popped, answering_same, answering_joins, answering_with, answering_tree, but_answering, closes_but, closed_free, closed_left, below_falls}
+use Rattle.bt_leaves.proofs.Begun.{put_begins, wait_begins}
+use Rattle.bt_leaves.proofs.Kept.{begun_step}
+use Rattle.bt_leaves.proofs.NextLeaf.{below_bytes}
+use Rattle.bt_moves.specs.Moves.{AllLate, LateKeeps, LateKeepsBut, PopKeepsLate}
+use Rattle.bt_moves.proofs.Lateness.{late_same, late_joins, but_same_late, but_joins_late, keeps_but_late, above_keeps, late_put, late_wait, late_pop, late_answering, late_close}
+use Rattle.bt_moves.proofs.Outs.{outs_step, outs_joins}
+use Rattle.bt_moves.proofs.Beginning.{fresh_over}
+use Rattle.bt_moves.proofs.Ripening.{calms_put, calms_but, empty_unripe}
+use Rattle.bt_floor.proofs.floor.Floor.+settling.Goals as goal
+
+pub settle_part-put-accepted-requires-clause-next : goal.settle_part-put-accepted-requires-clause-next
+settle_part-put-accepted-requires-clause-next g t c =
+    let l = c.loop-self.self.ledger in
+    let next : todo (part_tree l c.args.slot c.args.part) ≡ Some (Put c.in-Some-Put.leaf c.in-Some-Put.sink) = sym c.next.ensures.next ∙ c.in-Some-Put.is ∙ ap Some c.in-Some-Put.field-0-is in
+    λ κs within. inl next
+
+pub settle_part-loop-self-smaller-in-Put-1 : goal.settle_part-loop-self-smaller-in-Put-1
+settle_part-loop-self-smaller-in-Put-1 g t c =
+    let l = c.loop-self.self.ledger in
+    let next : todo (part_tree l c.args.slot c.args.part) ≡ Some (Put c.in-Some-Put.leaf c.in-Some-Put.sink) = sym c.next.ensures.next ∙ c.in-Some-Put.is ∙ ap Some c.in-Some-Put.field-0-is in
+    let given : is_given (slot_at l c.args.slot) ≡ true = sym c.is_given.ensures ∙ c.loop-self-test.true in
+    let part = part_stays c.args.self.now.ledger l c.args.slot c.args.part c.requires.part c.loop-self.invariant.others.slots (c.loop-self.invariant.others.stays c.args.slot) given in
+    rw c.put-accepted.ensures.ledger (put_falls l c.args.slot c.args.part c.in-Some-Put.leaf c.in-Some-Put.sink c.put-accepted.result part next)
+
+pub settle_part-loop-self-preserved-in-Put-1 : goal.settle_part-loop-self-preserved-in-Put-1
+settle_part-loop-self-preserved-in-Put-1 g t c =
+    let l = c.loop-self.self.ledger in
+    let next : todo (part_tree l c.args.slot c.args.part) ≡ Some (Put c.in-Some-Put.leaf c.in-Some-Put.sink) = sym c.next.ensures.next ∙ c.in-Some-Put.is ∙ ap Some c.in-Some-Put.field-0-is in
+    let given : is_given (slot_at l c.args.slot) ≡ true = sym c.is_given.ensures ∙ c.loop-self-test.true in
+    let part = part_stays c.args.self.now.ledger l c.args.slot c.args.part c.requires.part c.loop-self.invariant.others.slots (c.loop-self.invariant.others.stays c.args.slot) given in
+    let e = c.put-accepted.ensures.ledger in
+    let u = settle c.in-Some-Put.leaf (state_for c.put-accepted.result) (part_tree l c.args.slot c.args.part) in
+    let step : StepAt c.args.slot c.args.part l c.put-accepted.new.self.ledger = rw e (step_with l c.args.slot c.args.part u l.chains part (put_begins c.in-Some-Put.leaf c.in-Some-Put.sink c.put-accepted.result (part_tree l c.args.slot c.args.part) next)) in
+    let falls = put_falls l c.args.slot c.args.part c.in-Some-Put.leaf c.in-Some-Put.sink c.put-accepted.result part next in
+    let z = ap left_to_do e in
+    let w = c.loop-self.invariant.no_more in
+    record {
+      others = but_step c.args.slot c.args.part c.args.self.now.ledger l _ c.loop-self.invariant.others step;
+      late = λ b n. late_joins n c.args.self.now.ledger l c.put-accepted.new.self.ledger (c.loop-self.invariant.late b n) (rw e (late_put n l c.args.slot c.args.part c.in-Some-Put.leaf c.put-accepted.result part ((c.loop-self.invariant.others.stays c.args.slot given).2 c.args.part b)));
+      room = λ f. begun_room c.put-accepted.new.self.ledger c.args.slot c.args.part step.begins;
+      fresh = λ a b d f. ap begun (step.trees a b d) ∙ c.loop-self.invariant.fresh a b d f;
+      outs = outs_joins c.args.self.now.ledger l c.put-accepted.new.self.ledger c.loop-self.invariant.outs (outs_step c.args.slot c.args.part l c.put-accepted.new.self.ledger step);
+      calm = λ n h. rw e (calms_put l c.args.slot c.args.part c.in-Some-Put.leaf c.put-accepted.result part n (c.loop-self.invariant.calm n h));
+      outside = c.put-accepted.ensures.outside ∙ c.loop-self.invariant.outside;
+      no_more = omega arith;
+    }
+
+pub settle_part-loop-self-preserved-in-Some : goal.settle_part-loop-self-preserved-in-Some
+settle_part-loop-self-preserved-in-Some g t c =
+    let given : is_given (slot_at c.loop-self.self.ledger c.args.slot) ≡ true = sym c.is_given.ensures ∙ c.loop-self-test.true in
+    record {
+      others = but_keeps c.args.slot c.args.part c.args.self.now.ledger _ _ (but_step c.args.slot c.args.part c.args.self.now.ledger _ _ c.loop-self.invariant.others c.wait.ensures.step) c.release.ensures.others;
+      late = λ b n h. (let x = c.loop-self.invariant.late b n h in
+          let now = (c.loop-self.invariant.others.stays c.args.slot given).2 c.args.part b in
+          let above = late_next n c.in-Some-Wait.node (part_tree c.loop-self.self.ledger c.args.slot c.args.part) (x.0 c.args.slot c.args.part now) (sym c.next.ensures.next ∙ c.in-Some-Wait.is ∙ ap Some c.in-Some-Wait.field-0-is) in
+          late_joins n c.args.self.now.ledger c.loop-self.self.ledger c.release.new.self.ledger (c.loop-self.invariant.late b n) (late_joins n c.loop-self.self.ledger c.wait.new.self.ledger c.release.new.self.ledger (c.wait.ensures.late now n) (above_keeps c.in-Some-Wait.node n c.wait.new.self.ledger c.release.new.self.ledger above (c.release.ensures.late n (omega arith)))) h);
+      fresh = λ a b d f. c.release.ensures.fresh a b (ap begun (c.wait.ensures.step.trees a b d) ∙ c.loop-self.invariant.fresh a b d f);
+      outs = outs_joins c.args.self.now.ledger c.loop-self.self.ledger c.release.new.self.ledger c.loop-self.invariant.outs (outs_joins c.loop-self.self.ledger c.wait.new.self.ledger c.release.new.self.ledger (outs_step c.args.slot c.args.part c.loop-self.self.ledger c.wait.new.self.ledger c.wait.ensures.step) c.release.ensures.outs);
+      calm = λ n h. calms_but c.in-Some-Wait.node c.loop-self.self.ledger c.release.new.self.ledger (λ j d x. c.release.ensures.calm j (c.wait.ensures.calm j d x)) (empty_unripe c.release.new.self.ledger c.in-Some-Wait.node c.release.ensures.empties) n (c.loop-self.invariant.calm n h);
+      outside = c.release.ensures.outside ∙ c.wait.ensures.outside ∙ c.loop-self.invariant.outside;
+      room = λ e. begun_room c.release.new.self.ledger c.args.slot c.args.part ((c.release.ensures.others.stays c.args.slot e).2 c.args.part c.wait.ensures.step.begins);
+      no_more = omega arith;
+    }
+
+pub release-loop-entry-preserved : goal.release-loop-entry-preserved
+release-loop-entry-preserved g t c =
+    let s = c.in-Some.entry.slot in
+    let p = c.in-Some.entry.part in
+    let a = c.begin_release-batch.new.self.ledger in
+    let l = c.loop-entry.self.ledger in
+    let m = c.pop.new.self.ledger in
+    let k = c.settle_child.new.self.ledger in
+    let z = c.settle_part.new.self.ledger in
+    let step = c.in-Some.ensures.popped.0 in
+    let falls = c.in-Some.ensures.popped.1.1 in
+    let u = c.settle_child.ensures.no_more in
+    let v = c.settle_part.ensures.no_more in
+    let w = c.loop-entry.invariant.no_more in
+    record {
+      others = but_closes s p a z (but_keeps s p a k z (but_step s p a m k (but_step s p a l m (keeps_but s p a l c.loop-entry.invariant.others) step) c.settle_child.ensures.step) c.settle_part.ensures.others) c.settle_part.ensures.here c.settle_part.ensures.rest;
+      late = λ n h. but_joins_late c.args.node n a l z (c.loop-entry.invariant.late n h) (but_joins_late c.args.node n l m z (c.in-Some.ensures.late n h) (but_joins_late c.args.node n m k z (keeps_but_late c.args.node n m k (c.settle_child.ensures.late n)) (keeps_but_late c.args.node n k z (c.settle_part.ensures.late c.settle_child.ensures.step.begins n))));
+      fresh = λ a b f. fresh_over s p m k z step.begins c.settle_child.ensures.step c.settle_part.ensures.fresh a b (c.in-Some.ensures.fresh a b (c.loop-entry.invariant.fresh a b f));
+      outs = outs_joins a l z c.loop-entry.invariant.outs (outs_joins l m z (outs_step s p l m step) (outs_joins m k z (outs_step s p m k c.settle_child.ensures.step) c.settle_part.ensures.outs));
+      calm = λ n h. c.settle_part.ensures.calm n (c.settle_child.ensures.calm n (c.in-Some.ensures.calm n (c.loop-entry.invariant.calm n h)));
+      outside = c.settle_part.ensures.outside ∙ c.settle_child.ensures.outside ∙ c.in-Some.ensures.outside ∙ c.loop-entry.invariant.outside;
+      no_more = omega arith;
+    }
+
+pub settle_part-loop-self-preserved : goal.settle_part-loop-self-preserved
+settle_part-loop-self-preserved g t c =
+    let given : is_given (slot_at c.loop-self.self.ledger c.args.slot) ≡ true = sym c.is_given.ensures ∙ c.loop-self-test.true in
+    let falls = c.wait.ensures.falls in
+    let w = c.loop-self.invariant.no_more in
+    record {
+      others = but_step c.args.slot c.args.part c.args.self.now.ledger _ _ c.loop-self.invariant.others c.wait.ensures.step;
+      late = λ b n. late_joins n c.args.self.now.ledger c.loop-self.self.ledger c.wait.new.self.ledger (c.loop-self.invariant.late b n) (c.wait.ensures.late ((c.loop-self.invariant.others.stays c.args.slot given).2 c.args.part b) n);
+      room = λ e. begun_room c.wait.new.self.ledger c.args.slot c.args.part c.wait.ensures.step.begins;
+      fresh = λ a b d f. ap begun (c.wait.ensures.step.trees a b d) ∙ c.loop-self.invariant.fresh a b d f;
+      outs = outs_joins c.args.self.now.ledger c.loop-self.self.ledger c.wait.new.self.ledger c.loop-self.invariant.outs (outs_step c.args.slot c.args.part c.loop-self.self.ledger c.wait.new.self.ledger c.wait.ensures.step);
+      calm = λ n h. calms_but c.in-Some-Wait.node c.loop-self.self.ledger c.wait.new.self.ledger c.wait.ensures.calm (sym c.ripe.ensures ∙ c.in-None.is) n (c.loop-self.invariant.calm n h);
+      outside = c.wait.ensures.outside ∙ c.loop-self.invariant.outside;
+      no_more = omega arith;
+    }
+
+pub settle_part-returns-in_default-clause-late : goal.settle_part-returns-in_default-clause-late
+settle_part-returns-in_default-clause-late g t c = λ b n. late_joins n c.args.self.now.ledger c.loop-self.self.ledger c.finish_part.new.self.ledger (c.loop-self.invariant.late b n) (c.finish_part.ensures.late n)
+
+pub release-returns-clause-late : goal.release-returns-clause-late
+release-returns-clause-late g t c = λ n h. subst (λ k. LateKeepsBut c.args.node n k c.pop.new.self.ledger) c.begin_release-batch.ensures.ledger (subst (λ m. LateKeepsBut c.args.node n c.begin_release-batch.new.self.ledger m) (sym c.in_default.ensures.popped) (c.loop-entry.invariant.late n h))
+
+pub settle_part-returns-in_default-clause-outs : goal.settle_part-returns-in_default-clause-outs
+settle_part-returns-in_default-clause-outs g t c = outs_joins c.args.self.now.ledger c.loop-self.self.ledger c.finish_part.new.self.ledger c.loop-self.invariant.outs c.finish_part.ensures.outs

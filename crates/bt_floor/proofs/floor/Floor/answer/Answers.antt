@@ -1,0 +1,38 @@
+use Rattle.std.proofs.Common.{◌≡◌, ℕ, ◌+◌, ◌<◌, ◌≤◌, arith, refl, sym, ap, ◌∙◌, subst, length, set, get_or, Some, true, false, Bool, IsTrue}
+use Rattle.bt_ledger.specs.Due.{LeastDue, unanswered}
+use Rattle.bt_ledger.specs.Ledger.{Ledger, slot_at, parts_in, is_given, IsGiven, with_slot, open_in, answered_in}
+use Rattle.bt_ledger.specs.declared.slot.Slot.TheVariants.{Given}
+use Rattle.bt_ledger.proofs.Answering.{unanswered_set}
+use Rattle.std.proofs.Common.{get_or-set_same}
+use Rattle.bt_ledger.specs.declared.slot.Slot.TheVariants.{Free}
+use Rattle.bt_moves.specs.Moves.{Answering}
+use Rattle.bt_sound.specs.View.{FloorView}
+use Rattle.bt_moves.proofs.Moves.{answering_with}
+use Rattle.bt_sound.proofs.Answered.{sound_answer}
+use Rattle.bt_floor.proofs.floor.Floor.answer.Goals as goal
+
+pub invariant_of-self : goal.invariant_of-self
+invariant_of-self g c =
+    let l = ap (λ (v : FloorView _ _ _ _ _). v.ledger) c.self.view_is in
+    let given : IsGiven c.self.inside.ledger c.args.slot = subst (λ k. IsGiven k c.args.slot) (sym l) c.requires.given in
+    let due : LeastDue (open_in (slot_at c.self.inside.ledger c.args.slot)) (Some c.args.item) = subst (λ k. LeastDue (open_in (slot_at k c.args.slot)) (Some c.args.item)) (sym l) c.requires.due in
+    rw c.answered.ensures (c.self.invariant.0, sound_answer _ _ _ _ _ _ c.self.invariant.0 c.args.slot c.args.item _ _ _ c.self.invariant.1 given due.0 c.number-number.ensures refl c.verdict_on-verdict.ensures c.why-why.ensures c.answer.ensures.told c.answer.ensures.adds)
+
+pub returns-clause-answering : goal.returns-clause-answering
+returns-clause-answering g c =
+    let l = ap (λ (v : FloorView _ _ _ _ _). v.ledger) c.self.view_is in
+    let given : IsGiven c.self.inside.ledger c.args.slot = subst (λ k. IsGiven k c.args.slot) (sym l) c.requires.given in
+    subst (λ k. Answering c.args.slot k c.answered.new.self) l (rw c.answered.ensures (answering_with c.self.inside.ledger c.args.slot _ given.0 refl refl))
+
+pub returns-clause-falls : goal.returns-clause-falls
+returns-clause-falls g c =
+    let l = ap (λ (v : FloorView _ _ _ _ _). v.ledger) c.self.view_is in
+    let given : IsGiven c.self.inside.ledger c.args.slot = subst (λ k. IsGiven k c.args.slot) (sym l) c.requires.given in
+    let due : LeastDue (open_in (slot_at c.self.inside.ledger c.args.slot)) (Some c.args.item) = subst (λ k. LeastDue (open_in (slot_at k c.args.slot)) (Some c.args.item)) (sym l) c.requires.due in
+    let a = unanswered_set (answered_in (slot_at c.self.inside.ledger c.args.slot)) c.args.item due.0.0 due.0.1 in
+    let p = a.0 in
+    let q = a.1 in
+    let e = ap (λ k. unanswered (answered_in (slot_at k c.args.slot))) c.answered.ensures in
+    let h = ap (λ x. unanswered (answered_in x)) (get_or-set_same c.self.inside.ledger.slots c.args.slot (Given (record (open_in (slot_at c.self.inside.ledger c.args.slot)) { answered = set (answered_in (slot_at c.self.inside.ledger c.args.slot)) c.args.item true })) Free given.0) in
+    let d = ap (λ k. unanswered (answered_in (slot_at k c.args.slot))) l in
+    omega arith

@@ -1,0 +1,59 @@
+use Rattle.std.proofs.Common.{◌≡◌, ℕ, ◌<◌, ◌≤◌, arith, refl, sym, ap, ◌∙◌, subst, length, true, false, get_or-set_same, length-set}
+use Rattle.bt_demand.specs.Find.{begun}
+use Rattle.bt_demand.specs.Parts.{parts_of}
+use Rattle.bt_ledger.specs.Ledger.{Ledger, slot_at, is_given, IsGiven, part_tree, parts_in, with_slot}
+use Rattle.bt_ledger.specs.Open.{tree_of}
+use Rattle.bt_ledger.specs.declared.slot.Slot.{Slot}
+use Rattle.bt_ledger.specs.declared.slot.Slot.TheVariants.{Free, Given}
+use Rattle.bt_sound.specs.Transactions.{given_open}
+use Rattle.bt_moves.proofs.Giving.{none_behind, after_give, closed_rests, given_here, given_slot}
+use Rattle.bt_sound.proofs.Taking.{fresh_at}
+use Rattle.bt_floor.proofs.floor.Floor.deliver_routes.Goals as goal
+
+pub finish_part-requires-clause-given : goal.finish_part-requires-clause-given
+finish_part-requires-clause-given g c = λ κs within. subst (λ k. IsGiven k c.args.slot) (sym c.give.ensures.ledger) (given_here c.args.self.now.ledger c.args.slot _ c.requires.within)
+
+pub deliver-requires-clause-quiet : goal.deliver-requires-clause-quiet
+deliver-requires-clause-quiet g c =
+    let m = c.give.new.self.ledger in
+    let k = c.finish_part.new.self.ledger in
+    let a = after_give c.args.self.now.ledger c.give.new.self.ledger c.finish_part.new.self.ledger c.args.slot (length (parts_in (slot_at c.give.new.self.ledger c.args.slot))) _ c.requires.resting c.give.ensures.ledger c.give.ensures.calm
+    (c.finish_part.ensures.others (length (parts_in (slot_at c.give.new.self.ledger c.args.slot))) (none_behind c.give.new.self.ledger c.args.slot)) c.finish_part.ensures.rest c.finish_part.ensures.calm in
+    λ κs within. a.quiet
+
+pub deliver-requires-clause-rest : goal.deliver-requires-clause-rest
+deliver-requires-clause-rest g c =
+    let m = c.give.new.self.ledger in
+    let k = c.finish_part.new.self.ledger in
+    let a = after_give c.args.self.now.ledger c.give.new.self.ledger c.finish_part.new.self.ledger c.args.slot (length (parts_in (slot_at c.give.new.self.ledger c.args.slot))) _ c.requires.resting c.give.ensures.ledger c.give.ensures.calm
+    (c.finish_part.ensures.others (length (parts_in (slot_at c.give.new.self.ledger c.args.slot))) (none_behind c.give.new.self.ledger c.args.slot)) c.finish_part.ensures.rest c.finish_part.ensures.calm in
+    λ κs within. a.rest
+
+pub deliver-requires-clause-calm : goal.deliver-requires-clause-calm
+deliver-requires-clause-calm g c =
+    let m = c.give.new.self.ledger in
+    let k = c.finish_part.new.self.ledger in
+    let a = after_give c.args.self.now.ledger c.give.new.self.ledger c.finish_part.new.self.ledger c.args.slot (length (parts_in (slot_at c.give.new.self.ledger c.args.slot))) _ c.requires.resting c.give.ensures.ledger c.give.ensures.calm
+    (c.finish_part.ensures.others (length (parts_in (slot_at c.give.new.self.ledger c.args.slot))) (none_behind c.give.new.self.ledger c.args.slot)) c.finish_part.ensures.rest c.finish_part.ensures.calm in
+    λ κs within. a.calm
+
+pub deliver-requires-clause-fresh : goal.deliver-requires-clause-fresh
+deliver-requires-clause-fresh g c = λ κs within b. c.finish_part.ensures.fresh c.args.slot b
+    (subst (λ j. begun (part_tree j c.args.slot b) ≡ false) (sym c.give.ensures.ledger)
+    (ap (λ x. begun (tree_of (parts_in x) b)) (given_slot c.args.self.now.ledger c.args.slot (given_open (slot_at c.args.self.now.ledger c.args.slot) (parts_of c.args.routes.parts.list)) c.requires.within) ∙ fresh_at _ _ _ (parts_of c.args.routes.parts.list) b c.requires.fits))
+
+pub returns-else-is_given-clause-resting : goal.returns-else-is_given-clause-resting
+returns-else-is_given-clause-resting g c =
+    let m = c.give.new.self.ledger in
+    let k = c.finish_part.new.self.ledger in
+    let a = after_give c.args.self.now.ledger c.give.new.self.ledger c.finish_part.new.self.ledger c.args.slot (length (parts_in (slot_at c.give.new.self.ledger c.args.slot))) _ c.requires.resting c.give.ensures.ledger c.give.ensures.calm
+    (c.finish_part.ensures.others (length (parts_in (slot_at c.give.new.self.ledger c.args.slot))) (none_behind c.give.new.self.ledger c.args.slot)) c.finish_part.ensures.rest c.finish_part.ensures.calm in
+    closed_rests c.args.slot c.finish_part.new.self.ledger a (sym c.is_given.ensures ∙ c.if-is_given.false)
+
+pub is_given-requires-after_bounds : goal.is_given-requires-after_bounds
+is_given-requires-after_bounds g c = λ κs within.
+    let e = ap (λ (k : Ledger). length k.slots) c.give.ensures.ledger in
+    let d = length-set c.args.self.now.ledger.slots c.args.slot (Given (given_open (slot_at c.args.self.now.ledger c.args.slot) (parts_of c.args.routes.parts.list))) in
+    let k = (c.finish_part.ensures.others (length (parts_in (slot_at c.give.new.self.ledger c.args.slot))) (none_behind c.give.new.self.ledger c.args.slot)).slots in
+    let w = c.requires.within in
+    omega arith

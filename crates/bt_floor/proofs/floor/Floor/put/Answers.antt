@@ -1,0 +1,42 @@
+use Rattle.std.proofs.Common.{◌≡◌, ℕ, ◌+◌, ◌<◌, ◌≤◌, arith, refl, sym, ap, ◌∙◌, subst, length, IsTrue, IsSome, true, false, Bool}
+use Rattle.bt_demand.specs.Find.{begun, bytes_of}
+use Rattle.bt_demand.specs.Holds.{holds}
+use Rattle.bt_demand.specs.Holding.{is_open}
+use Rattle.bt_demand.specs.Steps.{settle, state_for}
+use Rattle.bt_ledger.specs.Ledger.{Ledger, slot_at, part_tree, parts_in, is_given, IsPart, Roomy, with_part}
+use Rattle.bt_demand.specs.Reached.{IsNext}
+use Rattle.bt_sound.specs.Sound.{Sound}
+use Rattle.bt_sound.specs.View.{FloorView}
+use Rattle.bt_moves.proofs.Keeping.{given_true}
+use Rattle.bt_sound.proofs.Steps.{sound_put, well_formed_at}
+use Rattle.bt_leaves.proofs.NextLeaf.{to_put_bytes, put_in_range, next_open}
+use Rattle.bt_leaves.proofs.Kept.{untried_settle}
+use Rattle.bt_floor.proofs.floor.Floor.put.Goals as goal
+
+pub leaf_bytes-bytes-requires-clause-leaf : goal.leaf_bytes-bytes-requires-clause-leaf
+leaf_bytes-bytes-requires-clause-leaf g c =
+    let l = ap (λ (v : FloorView _ _ _ _ _). v.ledger) c.self.view_is in
+    let next : IsNext c.args.leaf c.args.sink (part_tree c.self.inside.ledger c.args.slot c.args.part) = subst (λ k. IsNext c.args.leaf c.args.sink (part_tree k c.args.slot c.args.part)) (sym l) c.requires.next in
+    to_put_bytes c.args.leaf c.args.sink (part_tree c.self.inside.ledger c.args.slot c.args.part) next
+
+pub write-accepted-requires-after_bounds : goal.write-accepted-requires-after_bounds
+write-accepted-requires-after_bounds g c = λ κs within.
+    let l = ap (λ (v : FloorView _ _ _ _ _). v.ledger) c.self.view_is in
+    let part : IsPart c.self.inside.ledger c.args.slot c.args.part = subst (λ k. IsPart k c.args.slot c.args.part) (sym l) c.requires.part in
+    let next : IsNext c.args.leaf c.args.sink (part_tree c.self.inside.ledger c.args.slot c.args.part) = subst (λ k. IsNext c.args.leaf c.args.sink (part_tree k c.args.slot c.args.part)) (sym l) c.requires.next in
+    let s = c.self.invariant.1 in
+    let formed = well_formed_at _ _ _ (parts_in (slot_at c.self.inside.ledger c.args.slot)) c.args.part part.1 (s.shaped c.args.slot (given_true (slot_at c.self.inside.ledger c.args.slot) c.args.part part.1)) in
+    let known = put_in_range c.args.leaf c.args.sink _ _ (part_tree c.self.inside.ledger c.args.slot c.args.part) next formed in
+    let many = s.sinks in
+    omega arith
+
+pub invariant_of-self : goal.invariant_of-self
+invariant_of-self g c =
+    let l = ap (λ (v : FloorView _ _ _ _ _). v.ledger) c.self.view_is in
+    let part : IsPart c.self.inside.ledger c.args.slot c.args.part = subst (λ k. IsPart k c.args.slot c.args.part) (sym l) c.requires.part in
+    let next : IsNext c.args.leaf c.args.sink (part_tree c.self.inside.ledger c.args.slot c.args.part) = subst (λ k. IsNext c.args.leaf c.args.sink (part_tree k c.args.slot c.args.part)) (sym l) c.requires.next in
+    rw c.settle_leaf.ensures (
+      c.self.invariant.0,
+      sound_put _ _ _ _ _ _ c.self.invariant.0 c.args.slot c.args.part c.args.leaf c.args.sink _ c.write-accepted.result _ c.self.invariant.1 part next c.write-accepted.ensures c.number-number.ensures refl refl
+          (untried_settle c.args.leaf (state_for c.write-accepted.result) (part_tree c.self.inside.ledger c.args.slot c.args.part)) (ap is_open (next_open c.args.leaf c.args.sink (part_tree c.self.inside.ledger c.args.slot c.args.part) next)),
+    )

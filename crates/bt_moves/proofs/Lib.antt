@@ -1,0 +1,11 @@
+pub mod Beginning
+pub mod Closing
+pub mod Delivering
+pub mod Giving
+pub mod Keeping
+pub mod Lateness
+pub mod Moves
+pub mod Ordering
+pub mod Outs
+pub mod Popping
+pub mod Ripening

@@ -1,0 +1,42 @@
+-- A ledger at rest, and one while the parts of a transaction are delivered.
+use Rattle.std.specs.Prelude.{◌≡◌, ℕ, ◌<◌, ◌≤◌, Bool, true, false, List, [], None}
+use Rattle.bt_demand.specs.Find.{begun}
+use Rattle.bt_demand.specs.Flushing.{Still}
+use Rattle.bt_demand.specs.Next.{todo}
+use Rattle.bt_ledger.specs.Calls.{reason}
+use Rattle.bt_ledger.specs.Due.{LeastDue, unanswered}
+use Rattle.bt_ledger.specs.Ledger.{Ledger, slot_at, part_tree, open_in, answered_in, is_given, chain_at}
+
+-- an open transaction has an item without its answer
+abbrev pub Unfinished : Bool → List Bool → Type 0
+Unfinished true bs = 0 < unanswered bs
+Unfinished false bs = Unit {0}
+
+-- Of a slot: no item is due, and an open transaction has an item without its answer. So whatever isn't open is at rest.
+abbrev pub AtRest : Ledger → ℕ → Type 0
+AtRest l s = LeastDue (open_in (slot_at l s)) None × Unfinished (is_given (slot_at l s)) (answered_in (slot_at l s))
+
+-- a chain isn't ripe by Count, Bytes or Check
+abbrev pub Unripe : Ledger → ℕ → Type 0
+Unripe l n = reason l n None ≡ None
+
+-- no part that has begun can go on
+abbrev pub BegunStill : Ledger → Type 0
+BegunStill l = (s p : ℕ) → begun (part_tree l s p) ≡ true → Still (todo (part_tree l s p))
+
+-- no chain holds anything
+abbrev pub Emptied : Ledger → Type 0
+Emptied l = (n : ℕ) → chain_at l n ≡ []
+
+-- between two calls of a desk: no part can go on, each slot is at rest, and no chain is ripe
+pub record Resting (l : Ledger) : Type 0 where
+  pub quiet : (s p : ℕ) → Still (todo (part_tree l s p))
+  pub rest : (s : ℕ) → AtRest l s
+  pub calm : (n : ℕ) → Unripe l n
+
+-- while the parts of a slot are delivered: those from number i on haven't begun, and no other part can go on
+pub record Delivering (s i : ℕ) (l : Ledger) : Type 0 where
+  pub quiet : (a b : ℕ) → (a ≡ s → i ≤ b → ⊥) → Still (todo (part_tree l a b))
+  pub fresh : (b : ℕ) → i ≤ b → begun (part_tree l s b) ≡ false
+  pub rest : (a : ℕ) → AtRest l a
+  pub calm : (n : ℕ) → Unripe l n

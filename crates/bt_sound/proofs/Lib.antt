@@ -1,0 +1,9 @@
+pub mod Answered
+pub mod Lists
+pub mod Placing
+pub mod Popping
+pub mod Puts
+pub mod Slots
+pub mod Steps
+pub mod Taking
+pub mod Verdicts

@@ -1,0 +1,171 @@
+-- A record that is put changes what is told of its own leaf alone.
+use Rattle.std.proofs.Common.{◌≡◌, ◌≢◌, ℕ, zero, suc, ◌+◌, ◌-◌, ◌<◌, ◌≤◌, ◌^◌, Bool, true, false, cond, eqb, ltb, leb, not, ◌&&◌, List, [], ◌∷◌, ◌++◌, length, get_or, set, ◌⊎◌, inl, inr, arith, refl, sym, ap, ◌∙◌, subst, eq-eqb, Option, Some, None, MatchOption, IsTrue, get_or-set_same, get_or-set_other, length-set}
+use Rattle.std.specs.List.{AllByRecursion}
+use Rattle.std.specs.Prelude.{replicate, slice_get}
+use Rattle.std.proofs.lemmas.Bool.Decides.{eqb_tells, leb_tells}
+use Rattle.std.proofs.lemmas.Bool.{eqb-true}
+use Rattle.std.proofs.lemmas.List.{length-replicate}
+use Rattle.bt_chains.specs.declared.Entry.{Entry}
+use Rattle.bt_demand.specs.Find.{begun}
+use Rattle.bt_demand.specs.Holding.{one_if, is_open}
+use Rattle.bt_demand.specs.Outcomes.{outcome, accepted, refused, lost}
+use Rattle.bt_demand.specs.Parts.{Part, PartFits, PartsFit}
+use Rattle.bt_demand.specs.Reached.{IsNext}
+use Rattle.bt_demand.specs.Reasons.{least, refused_leaves}
+use Rattle.bt_demand.specs.Recorded.{untried}
+use Rattle.bt_demand.specs.Steps.{settle, settle_each, settles, wait, release, state_for}
+use Rattle.bt_demand.specs.Tree.{Tree, Trees, leaf, drop as nothing, reject, all, first, hold, none, more}
+use Rattle.bt_demand.specs.Untouched.{Untouched}
+use Rattle.bt_demand.specs.WellFormed.{WellFormed, leaves, sinks, Differ}
+use Rattle.bt_demand.specs.declared.derive.Derive as Derive
+use Rattle.bt_demand.specs.declared.demand.State.{State}
+use Rattle.bt_demand.specs.declared.demand.State.TheVariants.{Untried as Fresh, Good, Bad}
+use Rattle.bt_demand.proofs.Untouched.{release-untouched, unbegun-untouched}
+use Rattle.bt_leaves.specs.EachLeaf.{EachLeaf, EachLeafIn}
+use Rattle.bt_leaves.proofs.Kept.{leaves_untried, fresh_by, fresh_untried, untried_release, by_release}
+use Rattle.bt_leaves.proofs.NextLeaf.{SinkIs, SinksAre, to_put_by, to_put_stands, stands_sink}
+use Rattle.bt_ledger.specs.Book.{Booked, IsFront}
+use Rattle.bt_ledger.specs.Calls.{IsOut, Fits, Released as ReleasedTo}
+use Rattle.bt_ledger.specs.Due.{LeastDue, IsDue, times, counts_for, open_parts, unanswered}
+use Rattle.bt_ledger.specs.Ledger.{Ledger, slot_at, part_tree, parts_in, number_in, moment_in, answered_in, items_in, is_free, is_given, open_in, with_part, with_slot, chain_at, IsPart, IsGiven}
+use Rattle.bt_ledger.specs.Open.{Open, tree_of, from_of, part_at, with_tree, no_part}
+use Rattle.bt_ledger.specs.Verdicts.{is_lost_from, lost_from, refusal, verdict_by, verdict_of, why_by, why_of, why_unless}
+use Rattle.bt_ledger.specs.declared.slot.Slot.{Slot}
+use Rattle.bt_ledger.specs.declared.slot.Slot.TheVariants.{Free, Out, Given}
+use Rattle.bt_ledger.proofs.Counts.{open_parts-set}
+use Rattle.bt_ledger.proofs.Room.{part_cases}
+use Rattle.bt_ledger.proofs.Slots.{given_taken, part_taken}
+use Rattle.bt_moves.specs.Moves.{is_out}
+use Rattle.bt_moves.proofs.Keeping.{given_true}
+use Rattle.bt_moves.proofs.Moves.{front_cases, front_none}
+use Rattle.bt_moves.proofs.Popping.{front_open}
+use Rattle.bt_ports.specs.Clock.{reading_at}
+use Rattle.bt_ports.specs.Faults.{one_more, last_count}
+use Rattle.bt_ports.specs.declared.outside.Answerer as Answerer
+use Rattle.bt_ports.specs.declared.outside.Clock as Clock
+use Rattle.bt_ports.specs.declared.outside.Intake as Intake
+use Rattle.bt_ports.specs.declared.outside.Sink as Sink
+use Rattle.bt_ports.specs.declared.parts.AnswerCall.{AnswerCall}
+use Rattle.bt_ports.specs.declared.parts.Cause.TheVariants.{NoMemory}
+use Rattle.bt_ports.specs.declared.parts.Record.{Record}
+use Rattle.bt_ports.specs.declared.parts.Txn.{Txn}
+use Rattle.bt_ports.specs.declared.parts.Verdict.{Verdict}
+use Rattle.bt_ports.specs.declared.parts.Verdict.TheVariants.{Refused}
+use Rattle.bt_sound.specs.Answers.{is_for, calls_for, Called, Says, PastSays, IsRefusal, RefusalsFrom}
+use Rattle.bt_sound.specs.Records.{is_of, records_of, LeafTold, Told, PutOne, PutAt}
+use Rattle.bt_sound.specs.Sound.{here, in_slots, in_past, SaysTrue, Unknown, Sound}
+use Rattle.bt_sound.specs.Transactions.{IsTransaction, IsTaken, Taken, IsPlanned, Planned, Shaped, WasTaken, untried_parts, given_open, refused_open}
+use Rattle.bt_sound.specs.View.{FloorView, Outside, Past}
+use Rattle.bt_sound.specs.declared.counts.Counts.{Counts}
+
+last_false : (a b c : Bool) → c ≡ false → (a && (b && c)) ≡ false
+last_false true true c e = e
+last_false true false c e = refl
+last_false false b c e = refl
+
+pub other_leaf : (n p l m : ℕ) (r : Record) → is_of n p l r ≡ true → m ≢ l → is_of n p m r ≡ false
+other_leaf n p l m r e d = elim (eqb_tells r.leaf m) [
+  | inl i ↦ elim (eqb_tells r.leaf l) [
+    | inl j ↦ absurd (d (sym i.1 ∙ j.1))
+    | inr j ↦ (let z : is_of n p l r ≡ false = last_false (eqb r.txn n) (eqb r.part p) (eqb r.leaf l) j.0 in cc)
+  ]
+  | inr i ↦ last_false (eqb r.txn n) (eqb r.part p) (eqb r.leaf m) i.0
+]
+
+of_more : (n p l : ℕ) (rs : List Record) (r : Record) → records_of n p l (rs ++ r ∷ []) ≡ records_of n p l rs + one_if (is_of n p l r)
+of_more n p l [] r = omega arith
+of_more n p l (x ∷ rs) r = let a = of_more n p l rs r in omega arith
+
+of_cond : (n p l : ℕ) (ok : Bool) (rs : List Record) (r : Record) → records_of n p l (cond ok (rs ++ r ∷ []) rs) ≡ records_of n p l rs + one_if (ok && is_of n p l r)
+of_cond n p l true rs r = of_more n p l rs r
+of_cond n p l false rs r = omega arith
+
+of_else : (n p l : ℕ) (ok : Bool) (rs : List Record) (r : Record) → records_of n p l (cond ok rs (rs ++ r ∷ [])) ≡ records_of n p l rs + one_if (not ok && is_of n p l r)
+of_else n p l true rs r = omega arith
+of_else n p l false rs r = of_more n p l rs r
+
+none_more : (ok b : Bool) → b ≡ false → one_if (ok && b) ≡ 0
+none_more true b e = ap one_if e
+none_more false b e = refl
+
+-- a record of something else changes nothing for a leaf
+pub told_apart : {K : Type 0} (g : Sink.Ghosts K) (ks us : List K) (s : ℕ) (r : Record) (ok : Bool) (d : K) (n p j m : ℕ) (x : State) → PutAt g ks us s r ok → is_of n p m r ≡ false → LeafTold g ks d n p j m x → LeafTold g us d n p j m x
+told_apart g ks us s r ok d n p j m x w e h = elim (eqb_tells j s) [
+  | inl i ↦ (λ t.
+      let o = w.one d in
+      let t2 : IsTrue (g.tells (get_or us s d)) = subst (λ k. IsTrue (g.tells (get_or us k d))) i.1 t in
+      let b = h (subst (λ k. IsTrue (g.tells (get_or ks k d))) (sym i.1) (o.told t2)) in
+      let y = ap (records_of n p m) (o.taken t2) ∙ of_cond n p m ok (g.accepted (get_or ks s d)) r in
+      let z = ap (records_of n p m) (o.turned t2) ∙ of_else n p m ok (g.refused (get_or ks s d)) r in
+      let u = none_more ok (is_of n p m r) e in
+      let v = none_more (not ok) (is_of n p m r) e in
+      let b0 : records_of n p m (g.accepted (get_or ks s d)) ≡ one_if (accepted x) = ap (λ k. records_of n p m (g.accepted (get_or ks k d))) (sym i.1) ∙ b.0 in
+      let b1 : records_of n p m (g.refused (get_or ks s d)) ≡ one_if (refused x) = ap (λ k. records_of n p m (g.refused (get_or ks k d))) (sym i.1) ∙ b.1 in (
+        ap (λ k. records_of n p m (g.accepted (get_or us k d))) i.1 ∙ (let q : records_of n p m (g.accepted (get_or us s d)) ≡ one_if (accepted x) = omega arith in q),
+        ap (λ k. records_of n p m (g.refused (get_or us k d))) i.1 ∙ (let q : records_of n p m (g.refused (get_or us s d)) ≡ one_if (refused x) = omega arith in q),
+      ))
+  | inr i ↦ (let q = w.others j d i.1 in rw q h)
+]
+
+counts_put : (ok : Bool) (x : State) (a b : ℕ) → a ≡ one_if (accepted Fresh) → b ≡ one_if (refused Fresh) → a ≡ one_if (accepted x) → b ≡ one_if (refused x)
+    → (a + one_if (ok && true) ≡ one_if (accepted (settles (state_for ok) x))) × (b + one_if (not ok && true) ≡ one_if (refused (settles (state_for ok) x)))
+counts_put true Fresh a b e f h k = (omega arith, omega arith)
+counts_put false Fresh a b e f h k = (omega arith, omega arith)
+counts_put ok Good a b e f h k = absurd (omega arith)
+counts_put ok Bad a b e f h k = absurd (omega arith)
+
+told_put : {K : Type 0} (g : Sink.Ghosts K) (ks us : List K) (s : ℕ) (r : Record) (ok : Bool) (d : K) (n p l : ℕ) (x : State) → PutAt g ks us s r ok → is_of n p l r ≡ true → LeafTold g ks d n p s l Fresh → LeafTold g ks d n p s l x
+    → LeafTold g us d n p s l (settles (state_for ok) x)
+told_put g ks us s r ok d n p l x w e f h = λ t.
+    let o = w.one d in
+    let a = f (o.told t) in
+    let b = h (o.told t) in
+    let y = ap (records_of n p l) (o.taken t) ∙ of_cond n p l ok (g.accepted (get_or ks s d)) r ∙ ap (λ v. records_of n p l (g.accepted (get_or ks s d)) + one_if (ok && v)) e in
+    let z = ap (records_of n p l) (o.turned t) ∙ of_else n p l ok (g.refused (get_or ks s d)) r ∙ ap (λ v. records_of n p l (g.refused (get_or ks s d)) + one_if (not ok && v)) e in
+    let c = counts_put ok x _ _ a.0 a.1 b.0 b.1 in
+    (y ∙ c.0, z ∙ c.1)
+
+mutual
+  pub tree_map : (T U : ℕ → ℕ → State → Type 0) (t : Tree) → ((k m : ℕ) (x : State) → T k m x → U k m x) → EachLeaf T t → EachLeaf U t
+  tree_map T U (leaf m j b x) f h = f j m x h
+  tree_map T U nothing f h = tt
+  tree_map T U (reject v) f h = tt
+  tree_map T U (all ts) f h = trees_map T U ts f h
+  tree_map T U (first ts) f h = trees_map T U ts f h
+  tree_map T U (hold m i z c g) f h = tree_map T U c f h
+
+  trees_map : (T U : ℕ → ℕ → State → Type 0) (ts : Trees) → ((k m : ℕ) (x : State) → T k m x → U k m x) → EachLeafIn T ts → EachLeafIn U ts
+  trees_map T U none f h = tt
+  trees_map T U (more t ts) f h = (tree_map T U t f h.0, trees_map T U ts f h.1)
+
+leaf_put : {K : Type 0} (g : Sink.Ghosts K) (ks us : List K) (s : ℕ) (r : Record) (ok : Bool) (d : K) (n p l m j : ℕ) (x : State) → PutAt g ks us s r ok → is_of n p l r ≡ true → (m ≡ l → j ≡ s) → LeafTold g ks d n p s l Fresh → LeafTold g ks d n p j m x
+    → LeafTold g us d n p j m (cond (eqb m l) (settles (state_for ok) x) x)
+leaf_put g ks us s r ok d n p l m j x w e v f h = elim (eqb_tells m l) [
+  | inl i ↦ (let q : j ≡ s = v i.1 in rw (i.0, q, i.1) (told_put g ks us s r ok d n p l x w e f (rw (q, i.1) at h)))
+  | inr i ↦ rw i.0 (told_apart g ks us s r ok d n p j m x w (other_leaf n p l m r e i.1) h)
+]
+
+mutual
+  pub tree_put : {K : Type 0} (g : Sink.Ghosts K) (ks us : List K) (s : ℕ) (r : Record) (ok : Bool) (d : K) (n p l : ℕ) (t : Tree) → PutAt g ks us s r ok → is_of n p l r ≡ true → SinkIs l s t → LeafTold g ks d n p s l Fresh
+      → EachLeaf (λ k m x. LeafTold g ks d n p k m x) t → EachLeaf (λ k m x. LeafTold g us d n p k m x) (settle l (state_for ok) t)
+  tree_put g ks us s r ok d n p l (leaf m j b x) w e v f h = leaf_put g ks us s r ok d n p l m j x w e v f h
+  tree_put g ks us s r ok d n p l nothing w e v f h = tt
+  tree_put g ks us s r ok d n p l (reject y) w e v f h = tt
+  tree_put g ks us s r ok d n p l (all ts) w e v f h = trees_put g ks us s r ok d n p l ts w e v f h
+  tree_put g ks us s r ok d n p l (first ts) w e v f h = trees_put g ks us s r ok d n p l ts w e v f h
+  tree_put g ks us s r ok d n p l (hold m i z c y) w e v f h = tree_put g ks us s r ok d n p l c w e v f h
+
+  trees_put : {K : Type 0} (g : Sink.Ghosts K) (ks us : List K) (s : ℕ) (r : Record) (ok : Bool) (d : K) (n p l : ℕ) (ts : Trees) → PutAt g ks us s r ok → is_of n p l r ≡ true → SinksAre l s ts → LeafTold g ks d n p s l Fresh
+      → EachLeafIn (λ k m x. LeafTold g ks d n p k m x) ts → EachLeafIn (λ k m x. LeafTold g us d n p k m x) (settle_each l (state_for ok) ts)
+  trees_put g ks us s r ok d n p l none w e v f h = tt
+  trees_put g ks us s r ok d n p l (more t ts) w e v f h = (tree_put g ks us s r ok d n p l t w e v.0 f h.0, trees_put g ks us s r ok d n p l ts w e v.1 f h.1)
+
+-- which transaction, part and leaf a record is of
+pub of_itself : (r : Record) → is_of r.txn r.part r.leaf r ≡ true
+of_itself r = rw (eq-eqb r.txn r.txn refl, eq-eqb r.part r.part refl, eq-eqb r.leaf r.leaf refl) refl
+
+pub of_other : (n p m : ℕ) (r : Record) → (r.txn ≡ n → r.part ≡ p → ⊥) → is_of n p m r ≡ false
+of_other n p m r d = elim (eqb_tells r.txn n) [
+  | inl i ↦ elim (eqb_tells r.part p) [ inl j ↦ absurd (d i.1 j.1) | inr j ↦ rw (i.0, j.0) refl ]
+  | inr i ↦ rw i.0 refl
+]

@@ -1,0 +1,164 @@
+-- A step of a part keeps a floor sound.
+use Rattle.std.proofs.Common.{◌≡◌, ◌≢◌, ℕ, zero, suc, ◌+◌, ◌-◌, ◌<◌, ◌≤◌, ◌^◌, Bool, true, false, cond, eqb, ltb, leb, not, ◌&&◌, List, [], ◌∷◌, ◌++◌, length, get_or, set, ◌⊎◌, inl, inr, arith, refl, sym, ap, ◌∙◌, subst, eq-eqb, Option, Some, None, MatchOption, IsTrue, get_or-set_same, get_or-set_other, length-set}
+use Rattle.std.specs.List.{AllByRecursion}
+use Rattle.std.specs.Prelude.{replicate, slice_get}
+use Rattle.std.proofs.lemmas.Bool.Decides.{eqb_tells, leb_tells}
+use Rattle.std.proofs.lemmas.Bool.{eqb-true}
+use Rattle.std.proofs.lemmas.List.{length-replicate}
+use Rattle.bt_chains.specs.declared.Entry.{Entry}
+use Rattle.bt_demand.specs.Find.{begun}
+use Rattle.bt_demand.specs.Holding.{one_if, is_open}
+use Rattle.bt_demand.specs.Outcomes.{outcome, accepted, refused, lost}
+use Rattle.bt_demand.specs.Parts.{Part, PartFits, PartsFit}
+use Rattle.bt_demand.specs.Reached.{IsNext}
+use Rattle.bt_demand.specs.Reasons.{least, refused_leaves}
+use Rattle.bt_demand.specs.Recorded.{untried}
+use Rattle.bt_demand.specs.Steps.{settle, settle_each, settles, wait, release, state_for}
+use Rattle.bt_demand.specs.Tree.{Tree, Trees, leaf, drop as nothing, reject, all, first, hold, none, more}
+use Rattle.bt_demand.specs.Untouched.{Untouched}
+use Rattle.bt_demand.specs.WellFormed.{WellFormed, leaves, sinks, Differ}
+use Rattle.bt_demand.specs.declared.derive.Derive as Derive
+use Rattle.bt_demand.specs.declared.demand.State.{State}
+use Rattle.bt_demand.specs.declared.demand.State.TheVariants.{Untried as Fresh, Good, Bad}
+use Rattle.bt_demand.proofs.Reached.{next-untouched}
+use Rattle.bt_demand.proofs.Untouched.{release-untouched, unbegun-untouched}
+use Rattle.bt_leaves.specs.EachLeaf.{EachLeaf, EachLeafIn}
+use Rattle.bt_leaves.proofs.Kept.{leaves_untried, fresh_by, fresh_untried, untried_release, by_release}
+use Rattle.bt_leaves.proofs.NextLeaf.{SinkIs, SinksAre, to_put_by, to_put_stands, stands_sink}
+use Rattle.bt_ledger.specs.Book.{Booked, IsFront}
+use Rattle.bt_ledger.specs.Calls.{IsOut, Fits, Released as ReleasedTo}
+use Rattle.bt_ledger.specs.Due.{LeastDue, IsDue, times, counts_for, open_parts, unanswered}
+use Rattle.bt_ledger.specs.Ledger.{Ledger, slot_at, part_tree, parts_in, number_in, moment_in, answered_in, items_in, is_free, is_given, open_in, with_part, with_slot, chain_at, IsPart, IsGiven}
+use Rattle.bt_ledger.specs.Open.{Open, tree_of, from_of, part_at, with_tree, no_part}
+use Rattle.bt_ledger.specs.Verdicts.{is_lost_from, lost_from, refusal, verdict_by, verdict_of, why_by, why_of, why_unless}
+use Rattle.bt_ledger.specs.declared.slot.Slot.{Slot}
+use Rattle.bt_ledger.specs.declared.slot.Slot.TheVariants.{Free, Out, Given}
+use Rattle.bt_ledger.proofs.Counts.{open_parts-set}
+use Rattle.bt_ledger.proofs.Room.{part_cases}
+use Rattle.bt_ledger.proofs.Slots.{given_taken, part_taken}
+use Rattle.bt_moves.specs.Moves.{is_out}
+use Rattle.bt_moves.proofs.Keeping.{given_true}
+use Rattle.bt_moves.proofs.Moves.{front_cases, front_none}
+use Rattle.bt_moves.proofs.Popping.{front_open}
+use Rattle.bt_ports.specs.Clock.{reading_at}
+use Rattle.bt_ports.specs.Faults.{one_more, last_count}
+use Rattle.bt_ports.specs.declared.outside.Answerer as Answerer
+use Rattle.bt_ports.specs.declared.outside.Clock as Clock
+use Rattle.bt_ports.specs.declared.outside.Intake as Intake
+use Rattle.bt_ports.specs.declared.outside.Sink as Sink
+use Rattle.bt_ports.specs.declared.parts.AnswerCall.{AnswerCall}
+use Rattle.bt_ports.specs.declared.parts.Cause.TheVariants.{NoMemory}
+use Rattle.bt_ports.specs.declared.parts.Record.{Record}
+use Rattle.bt_ports.specs.declared.parts.Txn.{Txn}
+use Rattle.bt_ports.specs.declared.parts.Verdict.{Verdict}
+use Rattle.bt_ports.specs.declared.parts.Verdict.TheVariants.{Refused}
+use Rattle.bt_sound.specs.Answers.{is_for, calls_for, Called, Says, PastSays, IsRefusal, RefusalsFrom}
+use Rattle.bt_sound.specs.Records.{is_of, records_of, LeafTold, Told, PutOne, PutAt}
+use Rattle.bt_sound.specs.Sound.{here, in_slots, in_past, SaysTrue, Unknown, Sound}
+use Rattle.bt_sound.specs.Transactions.{IsTransaction, IsTaken, Taken, IsPlanned, Planned, Shaped, WasTaken, untried_parts, given_open, refused_open}
+use Rattle.bt_sound.specs.View.{FloorView, Outside, Past}
+use Rattle.bt_sound.specs.declared.counts.Counts.{Counts}
+use Rattle.bt_sound.proofs.Lists.{each_map, each_both}
+use Rattle.bt_sound.proofs.Placing.{apart_by, gone_by}
+use Rattle.bt_sound.proofs.Puts.{told_apart, tree_map, tree_put, of_itself, of_other}
+use Rattle.bt_sound.proofs.Slots.{stepped_open, step_cases, over_step, over_slot, untried_with, placed_step, planned_with, known_step}
+use Rattle.bt_sound.proofs.Verdicts.{says_step, tree_same, tree_other}
+
+-- a step of a part that was open, whatever it does to the sinks, where each leaf is beside its records afterwards
+pub sound_step : {I K A C D : Type 0} (gi : Intake.Ghosts I) (gk : Sink.Ghosts K) (ga : Answerer.Ghosts A) (gc : Clock.Ghosts C) (gd : Derive.Ghosts D) (f : FloorView I K A C D) (closed : List Past) (s p : ℕ) (t : Tree) (cs : List (List Entry)) (us : List K)
+    → Sound gi gk ga gc gd f closed → IsPart f.ledger s p → untried t ≡ untried (part_tree f.ledger s p) → is_open (outcome (part_tree f.ledger s p)) ≡ true → (Untouched (part_tree f.ledger s p) → Untouched t) → length us ≡ length f.sinks
+    → ((d : K) (a : ℕ) → is_given (slot_at (with_part f.ledger s p t) a) ≡ true → Told gk us d (open_in (slot_at (with_part f.ledger s p t) a)))
+    → ((d : K) → AllByRecursion (λ q. Told gk us d q.state) closed)
+    → ((d : K) (m b k j : ℕ) → Unknown f.ledger closed m → LeafTold gk us d m b k j Fresh)
+    → Sound gi gk ga gc gd (record f { ledger = record (with_part f.ledger s p t) { chains = cs }; sinks = us }) closed
+sound_step gi gk ga gc gd f closed s p t cs us h w u o ut n told past unwritten =
+    let l = f.ledger in
+    let g : is_given (slot_at f.ledger s) ≡ true = given_true (slot_at f.ledger s) p w.1 in
+    let taken = part_taken (slot_at f.ledger s) p w.1 in
+    let e = untried_with (parts_in (slot_at f.ledger s)) p t w.1 u in
+    record {
+      placed = λ m. ap (λ k. k + in_past m closed) (placed_step f.ledger s p t m w) ∙ h.placed m;
+      policies = h.policies;
+      sinks = n ∙ h.sinks;
+      releases = h.releases;
+      few = h.few;
+      wide = h.wide;
+      entries = h.entries;
+      given = h.given;
+      read = h.read;
+      expected = over_slot (λ y. Taken gi gc f.outside (number_in y) (moment_in y) (items_in y)) is_out f.ledger s (Given (stepped_open (open_in (slot_at f.ledger s)) p t)) w.0 refl h.expected;
+      untouched = λ a b. elim (part_cases f.ledger s p t a b w) [
+        | inl i ↦ subst (λ v. Untouched v) (sym i.1) (ut (h.untouched s p))
+        | inr i ↦ subst (λ v. Untouched v) (sym i.1) (h.untouched a b)
+      ];
+      past_answered = h.past_answered;
+      shaped = over_step (λ x. Shaped gd f.outside x) is_given true f.ledger s p t w g (λ x. subst (λ ps. PartsFit (gd.sinks f.outside.plan) (length (gd.policies f.outside.plan)) (length (answered_in (slot_at f.ledger s))) ps) (sym e) x) h.shaped;
+      planned = over_step (λ x. Planned gi gc gd f.outside x) is_given true f.ledger s p t w g (λ x. planned_with gi gc gd f.outside (open_in (slot_at f.ledger s)) (with_tree (parts_in (slot_at f.ledger s)) p t) e x) h.planned;
+      past_taken = h.past_taken;
+      told = told;
+      past_told = past;
+      unwritten = λ d m b k j x. unwritten d m b k j (known_step f.ledger s p t closed m w x);
+      called = λ tells. over_step (λ x. Called (ga.calls f.answerer) x) is_free false f.ledger s p t w taken (λ x. x) (h.called tells);
+      past_called = h.past_called;
+      says = λ tells. each_map (λ c. SaysTrue f.ledger closed c) (λ c. SaysTrue (record (with_part f.ledger s p t) { chains = cs }) closed c) (ga.calls f.answerer)
+          (λ c x. (over_step (λ y. y.number ≡ c.number → Says y c) is_given true f.ledger s p t w g (λ y z. says_step (open_in (slot_at f.ledger s)) p t c w.1 o (y z)) x.0, x.1)) (h.says tells);
+      no_other = h.no_other;
+    }
+
+-- the sinks stay: what is said of leaves doesn't depend on the stages of holds
+pub sound_still : {I K A C D : Type 0} (gi : Intake.Ghosts I) (gk : Sink.Ghosts K) (ga : Answerer.Ghosts A) (gc : Clock.Ghosts C) (gd : Derive.Ghosts D) (f : FloorView I K A C D) (closed : List Past) (s p : ℕ) (t : Tree) (cs : List (List Entry))
+    → Sound gi gk ga gc gd f closed → IsPart f.ledger s p → untried t ≡ untried (part_tree f.ledger s p) → is_open (outcome (part_tree f.ledger s p)) ≡ true → (Untouched (part_tree f.ledger s p) → Untouched t)
+    → ((T : ℕ → ℕ → State → Type 0) → EachLeaf T (part_tree f.ledger s p) → EachLeaf T t)
+    → Sound gi gk ga gc gd (record f { ledger = record (with_part f.ledger s p t) { chains = cs } }) closed
+sound_still gi gk ga gc gd f closed s p t cs h w u o ut by =
+    let g : is_given (slot_at f.ledger s) ≡ true = given_true (slot_at f.ledger s) p w.1 in
+    sound_step gi gk ga gc gd f closed s p t cs f.sinks h w u o ut refl
+    (λ d. over_step (λ x. Told gk f.sinks d x) is_given true f.ledger s p t w g
+    (λ x b. elim (eqb_tells b p) [
+      | inl i ↦ subst (λ k. EachLeaf (λ j m y. LeafTold gk f.sinks d (number_in (slot_at f.ledger s)) k j m y) (tree_of (with_tree (parts_in (slot_at f.ledger s)) p t) k)) (sym i.1)
+          (subst (λ v. EachLeaf (λ j m y. LeafTold gk f.sinks d (number_in (slot_at f.ledger s)) p j m y) v) (sym (tree_same (parts_in (slot_at f.ledger s)) p t w.1)) (by (λ j m y. LeafTold gk f.sinks d (number_in (slot_at f.ledger s)) p j m y) (x p)))
+      | inr i ↦ subst (λ v. EachLeaf (λ j m y. LeafTold gk f.sinks d (number_in (slot_at f.ledger s)) b j m y) v) (sym (tree_other (parts_in (slot_at f.ledger s)) p b t i.1)) (x b)
+    ]) (h.told d))
+    h.past_told
+    h.unwritten
+
+pub well_formed_at : (k m i : ℕ) (ps : List Part) (p : ℕ) → p < length ps → PartsFit k m i (untried_parts ps) → WellFormed k m (untried (tree_of ps p))
+well_formed_at k m i [] p h f = absurd (omega arith)
+well_formed_at k m i (q ∷ ps) zero h f = f.0.well_formed
+well_formed_at k m i (q ∷ ps) (suc p) h f = well_formed_at k m i ps p (omega arith) f.1
+
+-- a leaf that is put
+pub sound_put : {I K A C D : Type 0} (gi : Intake.Ghosts I) (gk : Sink.Ghosts K) (ga : Answerer.Ghosts A) (gc : Clock.Ghosts C) (gd : Derive.Ghosts D) (f : FloorView I K A C D) (closed : List Past) (s p lf k : ℕ) (r : Record) (ok : Bool) (us : List K)
+    → Sound gi gk ga gc gd f closed → IsPart f.ledger s p → IsNext lf k (part_tree f.ledger s p) → PutAt gk f.sinks us k r ok → r.txn ≡ number_in (slot_at f.ledger s) → r.part ≡ p → r.leaf ≡ lf
+    → untried (settle lf (state_for ok) (part_tree f.ledger s p)) ≡ untried (part_tree f.ledger s p) → is_open (outcome (part_tree f.ledger s p)) ≡ true
+    → Sound gi gk ga gc gd (record f { ledger = with_part f.ledger s p (settle lf (state_for ok) (part_tree f.ledger s p)); sinks = us }) closed
+sound_put gi gk ga gc gd f closed s p lf k r ok us h w next put en ep el u o =
+    let t = settle lf (state_for ok) (part_tree f.ledger s p) in
+    let n = number_in (slot_at f.ledger s) in
+    let g : is_given (slot_at f.ledger s) ≡ true = given_true (slot_at f.ledger s) p w.1 in
+    let taken = part_taken (slot_at f.ledger s) p w.1 in
+    let is : is_of (number_in (slot_at f.ledger s)) p lf r ≡ true = subst (λ x. is_of x p lf r ≡ true) en (subst (λ x. is_of r.txn x lf r ≡ true) ep (subst (λ x. is_of r.txn r.part x r ≡ true) el (of_itself r))) in
+    let formed = well_formed_at _ _ _ (parts_in (slot_at f.ledger s)) p w.1 (h.shaped s g) in
+    let differ : Differ (leaves (part_tree f.ledger s p)) = subst (λ ls. Differ ls) (leaves_untried (part_tree f.ledger s p)) formed.leaves_differ in
+    let sink = stands_sink lf k (part_tree f.ledger s p) (to_put_stands lf k (part_tree f.ledger s p) next) differ in
+    sound_step gi gk ga gc gd f closed s p (settle lf (state_for ok) (part_tree f.ledger s p)) f.ledger.chains us h w u o (λ q. next-untouched lf k (state_for ok) (part_tree f.ledger s p) differ q next) put.same
+    (λ d a v. elim (step_cases f.ledger s p (settle lf (state_for ok) (part_tree f.ledger s p)) a w) [
+      | inl i ↦ subst (λ x. Told gk us d (open_in x)) (sym i.1) (λ b. elim (eqb_tells b p) [
+        | inl j ↦ subst (λ q. EachLeaf (λ z m y. LeafTold gk us d (number_in (slot_at f.ledger s)) q z m y) (tree_of (with_tree (parts_in (slot_at f.ledger s)) p (settle lf (state_for ok) (part_tree f.ledger s p))) q)) (sym j.1)
+            (subst (λ x. EachLeaf (λ z m y. LeafTold gk us d (number_in (slot_at f.ledger s)) p z m y) x) (sym (tree_same (parts_in (slot_at f.ledger s)) p (settle lf (state_for ok) (part_tree f.ledger s p)) w.1))
+            (tree_put gk f.sinks us k r ok d (number_in (slot_at f.ledger s)) p lf (part_tree f.ledger s p) put is sink (to_put_by (λ z m y. LeafTold gk f.sinks d (number_in (slot_at f.ledger s)) p z m y) lf k (part_tree f.ledger s p) next (h.told d s g p)) (h.told d s g p)))
+        | inr j ↦ subst (λ x. EachLeaf (λ z m y. LeafTold gk us d (number_in (slot_at f.ledger s)) b z m y) x) (sym (tree_other (parts_in (slot_at f.ledger s)) p b (settle lf (state_for ok) (part_tree f.ledger s p)) j.1))
+            (tree_map (λ z m y. LeafTold gk f.sinks d (number_in (slot_at f.ledger s)) b z m y) (λ z m y. LeafTold gk us d (number_in (slot_at f.ledger s)) b z m y) (part_tree f.ledger s b)
+            (λ z m y q. told_apart gk f.sinks us k r ok d (number_in (slot_at f.ledger s)) b z m y put (of_other (number_in (slot_at f.ledger s)) b m r (λ c e. j.1 (sym e ∙ ep))) q) (h.told d s g b))
+      ])
+      | inr i ↦ (let ga2 : is_given (slot_at f.ledger a) ≡ true = ap is_given (sym i.1) ∙ v in
+          subst (λ x. Told gk us d (open_in x)) (sym i.1) (λ b. tree_map (λ z m y. LeafTold gk f.sinks d (number_in (slot_at f.ledger a)) b z m y) (λ z m y. LeafTold gk us d (number_in (slot_at f.ledger a)) b z m y) (part_tree f.ledger a b)
+          (λ z m y q. told_apart gk f.sinks us k r ok d (number_in (slot_at f.ledger a)) b z m y put
+          (of_other (number_in (slot_at f.ledger a)) b m r (λ c e. i.0 (sym (apart_by f.ledger.slots (number_in (slot_at f.ledger s)) _ _ s a (h.placed (number_in (slot_at f.ledger s))) taken (given_taken (slot_at f.ledger a) ga2) refl (sym c ∙ en))))) q)
+          (h.told d a ga2 b)))
+    ])
+    (λ d. each_both (λ q. Told gk f.sinks d q.state) (λ q. q.state.number ≢ number_in (slot_at f.ledger s)) (λ q. Told gk us d q.state) closed
+    (λ q x y b. tree_map (λ z m v. LeafTold gk f.sinks d q.state.number b z m v) (λ z m v. LeafTold gk us d q.state.number b z m v) (tree_of q.state.parts b)
+    (λ z m v c. told_apart gk f.sinks us k r ok d q.state.number b z m v put (of_other q.state.number b m r (λ e i. y (sym e ∙ en))) c) (x b))
+    (h.past_told d) (gone_by f.ledger.slots closed (number_in (slot_at f.ledger s)) _ s (h.placed (number_in (slot_at f.ledger s))) taken refl))
+    (λ d m b z j x. told_apart gk f.sinks us k r ok d m b z j Fresh put (of_other m b j r (λ e _. x.0 s g (sym en ∙ e))) (h.unwritten d m b z j x))

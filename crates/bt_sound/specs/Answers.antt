@@ -1,0 +1,44 @@
+-- The calls at the answerer, by transaction and item.
+use Rattle.std.specs.Prelude.{◌≡◌, ℕ, ◌+◌, Bool, true, false, eqb, ◌&&◌, List, [], ◌∷◌, get_or, Some}
+use Rattle.bt_demand.specs.Holding.{one_if}
+use Rattle.bt_ledger.specs.Open.{Open}
+use Rattle.bt_ledger.specs.Verdicts.{verdict_of, why_of}
+use Rattle.bt_ports.specs.declared.parts.AnswerCall.{AnswerCall}
+use Rattle.bt_ports.specs.declared.parts.Cause.TheVariants.{NoMemory}
+use Rattle.bt_ports.specs.declared.parts.Verdict.TheVariants.{Refused}
+
+-- a call is for this item of this transaction
+abbrev pub is_for : ℕ → ℕ → AnswerCall → Bool
+is_for n i c = eqb c.number n && eqb c.item i
+
+-- how many calls are
+abbrev pub calls_for : ℕ → ℕ → List AnswerCall → ℕ
+calls_for n i [] = 0
+calls_for n i (c ∷ cs) = one_if (is_for n i c) + calls_for n i cs
+
+-- each item of a transaction has one call where it is answered, and else none
+abbrev pub Called : List AnswerCall → Open → Type 0
+Called cs o = (i : ℕ) → calls_for o.number i cs ≡ one_if (get_or o.answered i false)
+
+-- a call for an item carries the verdict of the parts from the item, and the text that says why
+pub record Says (o : Open) (c : AnswerCall) : Type 0 where
+  pub answered : get_or o.answered c.item false ≡ true
+  pub verdict : Some c.verdict ≡ verdict_of o c.item
+  pub why : c.why ≡ why_of o c.item
+
+-- or that there was no memory
+abbrev pub PastSays : Bool → Open → AnswerCall → Type 0
+PastSays true o c = (c.verdict ≡ Refused NoMemory) × (c.why ≡ [])
+PastSays false o c = Says o c
+
+-- a call that refuses this item for want of memory
+pub record IsRefusal (n i : ℕ) (c : AnswerCall) : Type 0 where
+  pub number : c.number ≡ n
+  pub item : c.item ≡ i
+  pub verdict : c.verdict ≡ Refused NoMemory
+  pub why : c.why ≡ []
+
+-- the calls refuse, one after another, the items from this one on
+abbrev pub RefusalsFrom : ℕ → ℕ → List AnswerCall → Type 0
+RefusalsFrom n i [] = Unit {0}
+RefusalsFrom n i (c ∷ cs) = IsRefusal n i c × RefusalsFrom n (i + 1) cs

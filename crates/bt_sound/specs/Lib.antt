@@ -1,0 +1,6 @@
+pub mod Answers
+pub mod Counting
+pub mod Records
+pub mod Sound
+pub mod Transactions
+pub mod View
