@@ -2,7 +2,7 @@
 use Rattle.std.proofs.Common.{◌≡◌, ℕ, ◌+◌, suc, List, [], ◌∷◌, ◌++◌, take, length, refl, ap, sym, ◌∙◌, arith, Bool, true, false, ◌||◌, Some, slice_get, append-nil, append_assoc, length-append}
 use Rattle.bt_ports.specs.World.{Tale, StillTells}
 use Rattle.bt_ports.specs.declared.outside.Source as Source
-use Rattle.bt_intake.specs.View.{LineView}
+use Rattle.bt_commands.specs.View.{InputView}
 use Rattle.bt_tree.specs.declared.tree.Mapping.{Mapping}
 use Rattle.bt_blobl.specs.Inside.{Going, GivenLines, NextLines, LinesHalted, Passed, SameLines, LineMapped, all_lines}
 use Rattle.bt_blobl.specs.Meaning.{outcome, printed_of, error_of, fails, blobl_text, blobl_errors, errors_from, some_fail}
@@ -57,7 +57,7 @@ gave-all stops.NoMemory done line before given all is gave = tt
 
 module _ {S E I : Type 0} (gs : Source.Ghosts S) (m : Mapping) where
   -- no line was taken
-  pub going-begins : (i : LineView S) (tells prints says : Bool) (a : Tale E I) → i.given ≡ 0 → Going gs m 0 false i tells prints says a a
+  pub going-begins : (i : InputView S) (tells prints says : Bool) (a : Tale E I) → i.given ≡ 0 → Going gs m 0 false i tells prints says a a
   going-begins i tells prints says a none = record {
     done = [];
     whole = record { printed = λ t p. sym (append-nil a.printed); said = λ t p. sym (append-nil a.lines); failed = refl; first = λ t. refl };
@@ -65,7 +65,7 @@ module _ {S E I : Type 0} (gs : Source.Ghosts S) (m : Mapping) where
     given = λ t. none;
   }
 
-  module _ (n : ℕ) (failed : Bool) (i j : LineView S) (tells tells' prints prints' says says' : Bool) (a b c : Tale E I)
+  module _ (n : ℕ) (failed : Bool) (i j : InputView S) (tells tells' prints prints' says says' : Bool) (a b c : Tale E I)
       (still : StillTells tells tells' × StillTells prints prints' × StillTells says says') (going : Going gs m n failed i tells prints says a b) where
     -- one line more
     pub going-turned : (fault : Bool) → LineMapped gs m (n + 1) fault i j tells' prints' says' b c → SameLines gs i j → Going gs m (n + 1) (failed || fault) j tells' prints' says' a c

@@ -5,9 +5,9 @@ use Rattle.bt_ports.specs.Contents.{Contents}
 use Rattle.bt_ports.specs.World.{Tale}
 use Rattle.bt_ports.specs.declared.outside.Source as Source
 use Rattle.bt_ports.specs.declared.parts.Item.{Item}
-use Rattle.bt_intake.specs.Lines.{batches}
+use Rattle.bt_commands.specs.Input.{batches}
 use Rattle.bt_intake.specs.Sources.{all_tell, told}
-use Rattle.bt_intake.specs.View.{LineView}
+use Rattle.bt_commands.specs.View.{InputView}
 use Rattle.bt_tree.specs.declared.tree.Mapping.{Mapping}
 use Rattle.bt_blobl.specs.Inside.{LineShown, TurnResult, SameLines, IsBreak, AnswerIs, NextLines, all_lines}
 use Rattle.bt_blobl.specs.Meaning.{line_bytes, outcome}
@@ -15,7 +15,7 @@ use Rattle.bt_blobl.specs.declared.course.PassStop.{PassStop}
 use Rattle.bt_blobl.specs.declared.course.PassStop.TheVariants as stops
 
 -- an outcome that wasn't told whole is no answer of the intake
-answer-free : {S : Type 0} (stop : PassStop) (j : LineView S) → IsBreak stop → AnswerIs stop j.stopped
+answer-free : {S : Type 0} (stop : PassStop) (j : InputView S) → IsBreak stop → AnswerIs stop j.stopped
 answer-free stops.Ended j b = absurd b
 answer-free stops.ReadFault j b = absurd b
 answer-free (stops.LongLine n) j b = absurd b
@@ -31,7 +31,7 @@ gave-next stops.Bound line before given all b at = absurd b
 gave-next stops.PrintFailed line before given all b at = at
 gave-next stops.NoMemory line before given all b at = tt
 
-module _ {S : Type 0} (gs : Source.Ghosts S) (i j : LineView S)
+module _ {S : Type 0} (gs : Source.Ghosts S) (i j : InputView S)
     (telling : IsTrue (all_tell gs j.sources.list) → IsTrue (all_tell gs i.sources.list))
     (same : IsTrue (all_tell gs j.sources.list) → batches j.bound (told gs j.sources.list) ≡ batches i.bound (told gs i.sources.list)) where
   same-lines : SameLines gs i j

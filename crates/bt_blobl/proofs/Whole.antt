@@ -7,10 +7,11 @@ use Rattle.bt_ports.specs.World.{Tale, once_more}
 use Rattle.bt_ports.specs.declared.outside.Source as Source
 use Rattle.bt_ports.specs.declared.parts.Named.{Named}
 use Rattle.bt_ports.specs.declared.parts.Next.{Next}
-use Rattle.bt_intake.specs.Answers.{Standing, StopSays as AnswerSays}
-use Rattle.bt_intake.specs.Lines.{batches, SourceBytes}
+use Rattle.bt_commands.specs.Inputs.{Standing, StopSays as AnswerSays}
+use Rattle.bt_commands.specs.Input.{batches}
+use Rattle.bt_lines.specs.Lines.{SourceBytes}
 use Rattle.bt_intake.specs.Sources.{all_tell, told, taken_count, fault_count, SourceKept, SourcesKept}
-use Rattle.bt_intake.specs.View.{LineView}
+use Rattle.bt_commands.specs.View.{InputView}
 use Rattle.bt_syntax.specs.Built.{BuiltReading}
 use Rattle.bt_tree.specs.declared.tree.Mapping.{Mapping}
 use Rattle.bt_commands.specs.declared.limits.TheConstants.{INPUT_BOUND}
@@ -52,7 +53,9 @@ stop-holds stops.ReadFault answer done line given taken bytes is says gave first
     let end = subst (λ (a : Option Next). AnswerSays a INPUT_BOUND taken given true (input_of bytes)) is says in
     omega (arith, end refl, gave)
 stop-holds (stops.LongLine n) answer done line given taken bytes is says gave first =
-    subst (λ (a : Option Next). AnswerSays a INPUT_BOUND taken given true (input_of bytes)) is says
+    let end = subst (λ (a : Option Next). AnswerSays a INPUT_BOUND taken given true (input_of bytes)) is says in
+    let all : length (lines_of bytes) ≤ length done = omega (arith, length-map (transactions bytes) line_bytes, end.1 refl, gave) in
+    (first ∙ take_all (length done) (lines_of bytes) all, end.0 refl)
 stop-holds stops.Bound answer done line given taken bytes is says gave first =
     let end = subst (λ (a : Option Next). AnswerSays a INPUT_BOUND taken given true (input_of bytes)) is says in
     let all : length (lines_of bytes) ≤ length done = omega (arith, length-map (transactions bytes) line_bytes, end.2 refl, gave) in
@@ -75,7 +78,7 @@ stop-says s bound bound' taken taken' given tells tells' ss ss' p q r u says = r
 
 module _ {S E : Type 0} (gs : Source.Ghosts S) (text : List ℕ) where
   -- the standard input was opened, its lines mapped, and it was kept
-  module _ (m : Mapping) (reads : BuiltReading text m) (pass : Pass) (i j : LineView S) (tells prints says prints' says' : Bool) (a b c d : Tale E (Contents (Named S))) (sources : Contents (Named S))
+  module _ (m : Mapping) (reads : BuiltReading text m) (pass : Pass) (i j : InputView S) (tells prints says prints' says' : Bool) (a b c d : Tale E (Contents (Named S))) (sources : Contents (Named S))
       (printing : IsTrue prints' → IsTrue prints) (saying : IsTrue says' → IsTrue says) (fresh : IsFreshInput gs i) (opens : OpensInput gs i a b) (kept : SourcesKept gs i.sources.list j.sources.list) (bound : j.bound ≡ i.bound) (stands : Standing gs j)
       (rose : PassFaults pass.stop (fault_count gs i.sources.list) (fault_count gs j.sources.list)) (passed : Passed gs m pass j tells prints says b c) (only : PrintsOnly b c)
       (given_back : sources ≡ j.sources) (keeps : d ≡ record c { input_keeps = once_more c.input_keeps; kept_input = Some sources }) (t : IsTrue tells) where

@@ -14,9 +14,9 @@ use Rattle.bt_ports.specs.World.{Tale}
 use Rattle.bt_ports.specs.declared.outside.Source as Source
 use Rattle.bt_ports.specs.declared.parts.Next.{Next}
 use Rattle.bt_ports.specs.declared.parts.Next.TheVariants as next
-use Rattle.bt_intake.specs.Lines.{batches, stop}
+use Rattle.bt_commands.specs.Input.{batches, stop}
 use Rattle.bt_intake.specs.Sources.{all_tell, told}
-use Rattle.bt_intake.specs.View.{LineView}
+use Rattle.bt_commands.specs.View.{InputView}
 use Rattle.bt_blobl.specs.declared.course.PassStop.{PassStop}
 use Rattle.bt_blobl.specs.declared.course.PassStop.TheVariants as stops
 use Rattle.bt_blobl.specs.declared.course.Pass.{Pass}
@@ -97,7 +97,7 @@ RefusalSays halt.NoSource text = ⊥
 RefusalSays halt.NoMemory text = Unit {0}
 
 -- all lines that the sources of an intake make, where they tell their bytes
-abbrev pub all_lines : {S : Type 0} → Source.Ghosts S → LineView S → List (List ℕ)
+abbrev pub all_lines : {S : Type 0} → Source.Ghosts S → InputView S → List (List ℕ)
 all_lines g i = map line_bytes (batches i.bound (told g i.sources.list))
 
 -- of all that the world tells only what was printed and said changed
@@ -105,14 +105,14 @@ abbrev pub PrintsOnly : {E I : Type 0} → Tale E I → Tale E I → Type 0
 PrintsOnly a b = b ≡ record a { printed = b.printed; lines = b.lines }
 
 -- these lines were mapped: what was printed and said of them, with `prefix` behind it, whether one failed, and that they are the first of all
-pub record Done {S E I : Type 0} (gs : Source.Ghosts S) (m : Mapping) (done : List (List ℕ)) (prefix : List ℕ) (fault : Bool) (i : LineView S) (tells prints says : Bool) (a b : Tale E I) : Type 0 where
+pub record Done {S E I : Type 0} (gs : Source.Ghosts S) (m : Mapping) (done : List (List ℕ)) (prefix : List ℕ) (fault : Bool) (i : InputView S) (tells prints says : Bool) (a b : Tale E I) : Type 0 where
   pub printed : IsTrue tells → IsTrue prints → b.printed ≡ a.printed ++ (blobl_text m done ++ prefix)
   pub said : IsTrue tells → IsTrue says → b.lines ≡ a.lines ++ blobl_errors m done
   pub failed : fault ≡ some_fail m done
   pub first : IsTrue (all_tell gs i.sources.list) → done ≡ take (length done) (all_lines gs i)
 
 -- the lines that were mapped, n of them, and the intake gave no other
-pub record Going {S E I : Type 0} (gs : Source.Ghosts S) (m : Mapping) (n : ℕ) (failed : Bool) (i : LineView S) (tells prints says : Bool) (a b : Tale E I) : Type 0 where
+pub record Going {S E I : Type 0} (gs : Source.Ghosts S) (m : Mapping) (n : ℕ) (failed : Bool) (i : InputView S) (tells prints says : Bool) (a b : Tale E I) : Type 0 where
   pub done : List (List ℕ)
   pub whole : Done gs m done [] failed i tells prints says a b
   pub count : length done ≡ n
@@ -137,7 +137,7 @@ NextLines stops.PrintFailed line before given all = slice_get all before ≡ Som
 NextLines stops.NoMemory line before given all = Unit {0}
 
 -- the sources tell no other lines than before
-abbrev pub SameLines : {S : Type 0} → Source.Ghosts S → LineView S → LineView S → Type 0
+abbrev pub SameLines : {S : Type 0} → Source.Ghosts S → InputView S → InputView S → Type 0
 SameLines gs i j = IsTrue (all_tell gs j.sources.list) → IsTrue (all_tell gs i.sources.list) × (all_lines gs j ≡ all_lines gs i)
 
 -- the intake's own answer, where it is why no more lines are mapped
@@ -150,7 +150,7 @@ AnswerIs stops.PrintFailed stopped = Unit {0}
 AnswerIs stops.NoMemory stopped = Unit {0}
 
 -- no more lines are mapped
-pub record Passed {S E I : Type 0} (gs : Source.Ghosts S) (m : Mapping) (pass : Pass) (i : LineView S) (tells prints says : Bool) (a b : Tale E I) : Type 0 where
+pub record Passed {S E I : Type 0} (gs : Source.Ghosts S) (m : Mapping) (pass : Pass) (i : InputView S) (tells prints says : Bool) (a b : Tale E I) : Type 0 where
   pub done : List (List ℕ)
   pub line : List ℕ
   pub prefix : List ℕ
@@ -186,21 +186,21 @@ LineShown (Ok failed) n o tells prints says a b = (failed ≡ fails o) × LineTo
 LineShown (Err stop) n o tells prints says a b = IsBreak stop × LineCut stop o tells prints says a b
 
 -- The n-th line was taken, and its outcome told: the lines before it are as many as the intake had given
-pub record LineMapped {S E I : Type 0} (gs : Source.Ghosts S) (m : Mapping) (n : ℕ) (fault : Bool) (i j : LineView S) (tells prints says : Bool) (a b : Tale E I) : Type 0 where
+pub record LineMapped {S E I : Type 0} (gs : Source.Ghosts S) (m : Mapping) (n : ℕ) (fault : Bool) (i j : InputView S) (tells prints says : Bool) (a b : Tale E I) : Type 0 where
   pub line : List ℕ
   pub fault_is : fault ≡ fails (outcome m line)
   pub tells_it : LineTold n (outcome m line) tells prints says a b
   pub given : IsTrue (all_tell gs j.sources.list) → (j.given ≡ i.given + 1) × (slice_get (all_lines gs j) i.given ≡ Some line)
 
 -- No line more was told: the intake gave none, or memory was wanting, or its outcome wasn't printed whole
-pub record LinesHalted {S E I : Type 0} (gs : Source.Ghosts S) (m : Mapping) (stop : PassStop) (i j : LineView S) (tells prints says : Bool) (a b : Tale E I) : Type 0 where
+pub record LinesHalted {S E I : Type 0} (gs : Source.Ghosts S) (m : Mapping) (stop : PassStop) (i j : InputView S) (tells prints says : Bool) (a b : Tale E I) : Type 0 where
   pub line : List ℕ
   pub breaks : LineCut stop (outcome m line) tells prints says a b
   pub answer : AnswerIs stop j.stopped
   pub gave : IsTrue (all_tell gs j.sources.list) → NextLines stop line i.given j.given (all_lines gs j)
 
 -- how a turn of the lines went
-abbrev pub TurnResult : {S E I : Type 0} → Source.Ghosts S → Mapping → ℕ → Result Bool PassStop → LineView S → LineView S → (tells prints says : Bool) → Tale E I → Tale E I → Type 0
+abbrev pub TurnResult : {S E I : Type 0} → Source.Ghosts S → Mapping → ℕ → Result Bool PassStop → InputView S → InputView S → (tells prints says : Bool) → Tale E I → Tale E I → Type 0
 TurnResult gs m n (Ok fault) i j tells prints says a b = LineMapped gs m n fault i j tells prints says a b × SameLines gs i j
 TurnResult gs m n (Err stop) i j tells prints says a b = LinesHalted gs m stop i j tells prints says a b × SameLines gs i j
 
@@ -214,7 +214,7 @@ IsNoOpening halt.NoSource = Unit {0}
 IsNoOpening halt.NoMemory = Unit {0}
 
 -- an intake of one source without faults, of which nothing was given
-pub record IsFreshInput {S : Type 0} (gs : Source.Ghosts S) (i : LineView S) : Type 0 where
+pub record IsFreshInput {S : Type 0} (gs : Source.Ghosts S) (i : InputView S) : Type 0 where
   pub source : S
   pub sources : i.sources.list ≡ record { path = None; source = source } ∷ []
   pub faults : gs.faults source ≡ 0
@@ -223,7 +223,7 @@ pub record IsFreshInput {S : Type 0} (gs : Source.Ghosts S) (i : LineView S) : T
   pub stopped : i.stopped ≡ None
 
 -- that source is the standard input, opened as the one call
-pub record OpensInput {S E I : Type 0} (gs : Source.Ghosts S) (i : LineView S) (a b : Tale E I) : Type 0 where
+pub record OpensInput {S E I : Type 0} (gs : Source.Ghosts S) (i : InputView S) (a b : Tale E I) : Type 0 where
   pub source : S
   pub sources : i.sources.list ≡ record { path = None; source = source } ∷ []
   pub place : gs.place source ≡ length a.calls + 1

@@ -2,7 +2,7 @@
 use Rattle.std.specs.Prelude.{◌≡◌, ℕ, ◌+◌, List, [], ◌++◌, length, take, slice_get, Bool, IsTrue, Some, ◌≤◌, if◌then◌else◌, ◌∷◌, None, map, codes, Result, Ok, Err}
 use Rattle.bt_ports.specs.World.{Tale, once_more}
 use Rattle.bt_ports.specs.declared.outside.Source as Source
-use Rattle.bt_intake.specs.Lines.{batches, stop}
+use Rattle.bt_commands.specs.Input.{closed, stop}
 use Rattle.bt_tree.specs.declared.tree.Mapping.{Mapping}
 use Rattle.bt_blobl.specs.declared.course.PassStop.{PassStop}
 use Rattle.bt_blobl.specs.declared.course.PassStop.TheVariants as stops
@@ -12,7 +12,7 @@ use Rattle.bt_ports.specs.Contents.{Contents}
 use Rattle.bt_ports.specs.Faults.{Rose}
 use Rattle.bt_ports.specs.declared.parts.Asked.{Asked}
 use Rattle.bt_ports.specs.declared.parts.Named.{Named}
-use Rattle.bt_ports.specs.Intake.{input_end, bound_met}
+use Rattle.bt_ports.specs.Intake.{input_end, bound_met, line_too_long}
 use Rattle.bt_syntax.specs.Built.{BuiltReading}
 use Rattle.bt_lexer.specs.Places.{line_of, column_of}
 use Rattle.bt_commands.specs.declared.limits.TheConstants.{INPUT_BOUND}
@@ -122,13 +122,13 @@ StopFaults stops.PrintFailed faults = faults ≡ 0
 StopFaults stops.NoMemory faults = Unit {0}
 
 -- why no more lines were mapped than `done`, over a source with these told bytes of which so many were taken:
--- at its end all lines were mapped and the input stops there, and so at its bound;
+-- at its end all lines were mapped and the input stops there, so at its bound, and so before a long line;
 -- at a read fault every line whose line feed was taken is among the mapped ones;
 -- at a failed print the next line is the one whose outcome wasn't printed whole
 abbrev pub StopSays : PassStop → List (List ℕ) → List ℕ → (taken : ℕ) → List ℕ → Type 0
 StopSays stops.Ended done line taken bytes = (done ≡ lines_of bytes) × (stop INPUT_BOUND (input_of bytes) ≡ input_end)
-StopSays stops.ReadFault done line taken bytes = length (batches taken (input_of bytes)) ≤ length done
-StopSays (stops.LongLine n) done line taken bytes = ⊥
+StopSays stops.ReadFault done line taken bytes = length (closed taken (input_of bytes)) ≤ length done
+StopSays (stops.LongLine n) done line taken bytes = (done ≡ lines_of bytes) × (stop INPUT_BOUND (input_of bytes) ≡ line_too_long n)
 StopSays stops.Bound done line taken bytes = (done ≡ lines_of bytes) × (stop INPUT_BOUND (input_of bytes) ≡ bound_met INPUT_BOUND) × (taken ≡ INPUT_BOUND)
 StopSays stops.PrintFailed done line taken bytes = slice_get (lines_of bytes) (length done) ≡ Some line
 StopSays stops.NoMemory done line taken bytes = Unit {0}

@@ -1,6 +1,6 @@
 //! The command `blobl`.
 ghost use Rattle.std.specs.Prelude.{◌≡◌, ℕ, ◌+◌, ◌≤◌, List, [], ◌∷◌, ◌++◌, length, None, IfOk, IfErr, IfSome, MatchOption, OnOk, IsTrue, map, true, false};
-ghost use Rattle.bt_intake.specs.Answers.{Standing};
+ghost use Rattle.bt_commands.specs.Inputs.{Standing};
 ghost use Rattle.bt_syntax.specs.Built.{BuiltReading, IsBuilt};
 ghost use Rattle.bt_tree.specs.declared.tree.Mapping.{Mapping};
 ghost use Rattle.bt_blobl.specs.Inside.{IsFreshInput, IsNoOpening, IsUnread, OpensInput, OpensNone, IsWithin, LintsSay, MappingSays, PatternsSay, RefusalSays, TokensSay, lexer_halt, parser_halt};
@@ -13,10 +13,10 @@ ghost use Rattle.bt_commands.specs.Outside.{SaysOnly, StillTold, over};
 use crate::course::{Halt, MappingFault, Pass, PassStop};
 use crate::faults::{fault_line, line_at};
 use crate::lines::map_lines;
+use bt_commands::input::LineInput;
 use bt_commands::limits::INPUT_BOUND;
 use bt_commands::lines::{bound_line, long_line};
 use bt_commands::status::Status;
-use bt_intake::intake::LineIntake;
 use bt_lexer::{LexFault, Tokens, lex, one_reading, place, spans_rise};
 use bt_lints::{MapLint, Use, lint_mapping};
 use bt_literals::{PatternFault, ready};
@@ -154,17 +154,17 @@ fn open_stdin<W: World>(world: &mut W) -> Result<W::S, Halt>
 }
 
 // An intake of the lines of the source.
-fn lines_of<S: Source>(alloc: Global, source: S) -> Result<LineIntake<S>, NoMemory>
+fn lines_of<S: Source>(alloc: Global, source: S) -> Result<LineInput<S>, NoMemory>
     requires { IsTrue (S.tells source) → S.taken source ≡ 0 }
     ensures { IfOk result (λ i. (i.sources.list ≡ record { path = None; source = source } ∷ []) × (i.bound ≡ INPUT_BOUND) × (i.given ≡ 0) × (i.stopped ≡ None)) }
 {
     let mut sources = Sequence::new(alloc);
     sources.push(Named { path: None, source })?;
-    Ok(LineIntake::make(alloc, sources, INPUT_BOUND)?)
+    Ok(LineInput::make(alloc, sources, INPUT_BOUND)?)
 }
 
 // Opens the standard input as an intake of lines.
-fn open_lines<W: World>(alloc: Global, world: &mut W) -> Result<LineIntake<W::S>, Halt>
+fn open_lines<W: World>(alloc: Global, world: &mut W) -> Result<LineInput<W::S>, Halt>
     ensures told { StillTold ⟦<W as World>⟧ world.old world.new }
     ensures steady { (W.file_faults world.new ≡ W.file_faults world.old) × (W.print_faults world.new ≡ W.print_faults world.old) }
     ensures counted { W.open_faults world.old ≤ W.open_faults world.new }

@@ -1,6 +1,6 @@
 //! The lines of an intake, one after another.
 ghost use Rattle.std.specs.Prelude.{◌≡◌, ◌≤◌, ◌<◌, ◌+◌, ◌-◌, ◌^◌, None, IfErr, OnOk, IsTrue};
-ghost use Rattle.bt_intake.specs.Answers.{Standing};
+ghost use Rattle.bt_commands.specs.Inputs.{Standing};
 ghost use Rattle.bt_intake.specs.Sources.{fault_count, SourcesKept};
 ghost use Rattle.bt_ports.specs.Faults.{Rose};
 ghost use Rattle.bt_syntax.specs.Built.{IsBuilt};
@@ -10,7 +10,7 @@ ghost use Rattle.bt_blobl.specs.declared.course.PassStop.{PassStop};
 
 use crate::course::{Pass, PassStop};
 use crate::outcome::map_line;
-use bt_intake::intake::LineIntake;
+use bt_commands::input::LineInput;
 use bt_ports::outside::{Intake, Source};
 use bt_ports::parts::Next;
 use bt_ports::world::World;
@@ -22,7 +22,7 @@ fn map_next<W: World>(
     alloc: Global,
     ready: &Ready,
     n: u64,
-    intake: &mut LineIntake<W::S>,
+    intake: &mut LineInput<W::S>,
     world: &mut W,
 ) -> Result<bool, PassStop>
     requires goes { intake.old.stopped ≡ None }
@@ -54,7 +54,7 @@ fn map_next<W: World>(
 pub(crate) fn map_lines<W: World>(
     alloc: Global,
     ready: &Ready,
-    intake: &mut LineIntake<W::S>,
+    intake: &mut LineInput<W::S>,
     world: &mut W,
 ) -> Pass
     requires fresh { (intake.old.stopped ≡ None) × (intake.old.given ≡ 0) }

@@ -7,6 +7,7 @@ use Rattle.bt_ports.specs.declared.parts.Item.{Item}
 use Rattle.bt_ports.specs.declared.parts.Named.{Named}
 use Rattle.bt_ports.specs.declared.parts.Next.{Next}
 use Rattle.bt_ports.specs.declared.parts.Next.TheVariants as next
+use Rattle.bt_ports.specs.Intake.{line_too_long}
 use Rattle.bt_desk.specs.Calls.{SameRun}
 use Rattle.bt_desk.specs.DeskView.{DeskView, run_of, given_before}
 use Rattle.bt_desk.specs.History.{Settled, numbered, items_of}
@@ -14,10 +15,11 @@ use Rattle.bt_desk.specs.Stands.{StandsWith, report_of, ending_of, TakesWhole}
 use Rattle.bt_desk.specs.declared.report.Ending.{Ending}
 use Rattle.bt_desk.specs.declared.report.Ending.TheVariants as ending
 use Rattle.bt_desk.specs.declared.report.Report.{Report}
-use Rattle.bt_intake.specs.Answers.{Standing, StopSays}
-use Rattle.bt_intake.specs.Lines.{batches, SourceBytes}
+use Rattle.bt_commands.specs.Inputs.{Standing, StopSays}
+use Rattle.bt_commands.specs.Input.{batches}
+use Rattle.bt_lines.specs.Lines.{SourceBytes}
 use Rattle.bt_intake.specs.Sources.{openings, inputs, all_tell, told, taken_count, fault_count}
-use Rattle.bt_intake.specs.View.{LineView}
+use Rattle.bt_commands.specs.View.{InputView}
 use Rattle.bt_commands.specs.Outside.{Outside}
 use Rattle.bt_run.specs.Inside.{Begun, SamePlaces, CarryFaults, HandsBack}
 use Rattle.bt_desk.proofs.Clean.{accepted-clean, answered-clean}
@@ -66,7 +68,13 @@ ending-says (Some ending.ReadFault) (Some next.Failed) count given taken bytes s
 ending-says (Some (ending.LongLine n)) (Some next.Failed) count given taken bytes some is says whole same = cc
 ending-says (Some ending.Bound) (Some next.Failed) count given taken bytes some is says whole same = cc
 ending-says (Some ending.NoMemory) (Some next.Failed) count given taken bytes some is says whole same = tt
-ending-says (Some e) (Some (next.LongLine n)) count given taken bytes some is says whole same = absurd says
+ending-says (Some ending.Ended) (Some (next.LongLine n)) count given taken bytes some is says whole same = cc
+ending-says (Some ending.ReadFault) (Some (next.LongLine n)) count given taken bytes some is says whole same = cc
+ending-says (Some (ending.LongLine m)) (Some (next.LongLine n)) count given taken bytes some is says whole same =
+    let line : n ≡ m = cc in
+    (whole, says.0 refl ∙ ap line_too_long line)
+ending-says (Some ending.Bound) (Some (next.LongLine n)) count given taken bytes some is says whole same = cc
+ending-says (Some ending.NoMemory) (Some (next.LongLine n)) count given taken bytes some is says whole same = tt
 ending-says (Some ending.Ended) (Some next.Bound) count given taken bytes some is says whole same = cc
 ending-says (Some ending.ReadFault) (Some next.Bound) count given taken bytes some is says whole same = cc
 ending-says (Some (ending.LongLine n)) (Some next.Bound) count given taken bytes some is says whole same = cc
@@ -105,16 +113,16 @@ stop-says : (s : Option Next) (bound bound' taken taken' given : ℕ) (tells tel
 stop-says s bound bound' taken taken' given tells tells' ss ss' p q r u says = rw (sym p, sym q, sym r, sym u) says
 
 -- a desk that began over what was opened and was carried to its end. The intake tells what its sources do
-module _ {W S K A C : Type 0} (o : Outside W S K A C) (gi : Intake.Ghosts (LineView S))
-    (tells-is : (i : LineView S) → gi.tells i ≡ all_tell o.source i.sources.list)
-    (batches-is : (i : LineView S) → gi.batches i ≡ batches i.bound (told o.source i.sources.list))
-    (given-is : (i : LineView S) → gi.given i ≡ i.given)
-    (stopped-is : (i : LineView S) → gi.stopped i ≡ i.stopped)
-    (faults-is : (i : LineView S) → gi.faults i ≡ fault_count o.source i.sources.list)
-    (openings-is : (i : LineView S) → gi.openings i ≡ openings o.source i.sources.list)
-    (inputs-is : (i : LineView S) → gi.inputs i ≡ inputs o.source i.sources.list)
-    (bounds-is : (i : LineView S) → gi.bounds i ≡ i.bound ∷ [])
-    (opening : Opening S K A) (c : C) (d e : DeskView (LineView S) K A C) (b : Begun opening c d) (fresh : o.source.faults opening.source ≡ 0)
+module _ {W S K A C : Type 0} (o : Outside W S K A C) (gi : Intake.Ghosts (InputView S))
+    (tells-is : (i : InputView S) → gi.tells i ≡ all_tell o.source i.sources.list)
+    (batches-is : (i : InputView S) → gi.batches i ≡ batches i.bound (told o.source i.sources.list))
+    (given-is : (i : InputView S) → gi.given i ≡ i.given)
+    (stopped-is : (i : InputView S) → gi.stopped i ≡ i.stopped)
+    (faults-is : (i : InputView S) → gi.faults i ≡ fault_count o.source i.sources.list)
+    (openings-is : (i : InputView S) → gi.openings i ≡ openings o.source i.sources.list)
+    (inputs-is : (i : InputView S) → gi.inputs i ≡ inputs o.source i.sources.list)
+    (bounds-is : (i : InputView S) → gi.bounds i ≡ i.bound ∷ [])
+    (opening : Opening S K A) (c : C) (d e : DeskView (InputView S) K A C) (b : Begun opening c d) (fresh : o.source.faults opening.source ≡ 0)
     (r : SameRun gi o.clock d e) (rose : CarryFaults e.report.ending (gi.faults d.intake) (gi.faults e.intake)) (p : SamePlaces o.sink o.answerer d e)
     (idle : e.out ≡ []) (i : Standing o.source e.intake) (h : List (List Settled)) (st : StandsWith gi o.sink o.answerer o.clock e h) where
   source : (s : S) × (e.intake.sources.list ≡ record { path = None; source = s } ∷ []) × (o.source.place s ≡ o.source.place opening.source)

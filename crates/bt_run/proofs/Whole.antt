@@ -7,7 +7,7 @@ use Rattle.bt_desk.specs.DeskView.{DeskView}
 use Rattle.bt_desk.specs.declared.report.Report.{Report}
 use Rattle.bt_desk.specs.declared.report.Ending.{Ending}
 use Rattle.bt_desk.specs.declared.report.Ending.TheVariants as ending
-use Rattle.bt_intake.specs.View.{LineView}
+use Rattle.bt_commands.specs.View.{InputView}
 use Rattle.bt_commands.specs.Outside.{Outside}
 use Rattle.bt_run.specs.Inside.{Started, Completes, StartTells}
 use Rattle.bt_run.specs.Plan.{plan}
@@ -64,7 +64,7 @@ refused-by (Some ending.NoMemory) failed refused memory s z p = (λ r. absurd (m
 
 module _ {W S K A C I : Type 0} (o : Outside W S K A C) (config : List ℕ) (answers : Option (List ℕ)) where
   -- a run that was started, completed and reported
-  pub tells-ran : (report : Report) (d : DeskView (LineView S) K A C) (a b e f : Tale (Ends S K A C) I) (lines : List (List ℕ))
+  pub tells-ran : (report : Report) (d : DeskView (InputView S) K A C) (a b e f : Tale (Ends S K A C) I) (lines : List (List ℕ))
       → Started o config answers d a b → Completes o report d b e → f ≡ record e { lines = lines } → Tells o config answers (Ok report) a f
   tells-ran report d a b e f lines s k said =
       let back = k.hands_back s.opening s.clock s.begun s.fresh in
@@ -101,7 +101,7 @@ module _ {W S K A C I : Type 0} (o : Outside W S K A C) (config : List ℕ) (ans
       }
 
   -- a run that halted
-  pub tells-halted : (h : Halt) (a b : Tale (Ends S K A C) I) → StartTells {T = DeskView (LineView S) K A C} config answers (Err h) a b → Tells o config answers (Err h) a b
+  pub tells-halted : (h : Halt) (a b : Tale (Ends S K A C) I) → StartTells {T = DeskView (InputView S) K A C} config answers (Err h) a b → Tells o config answers (Err h) a b
   tells-halted h a b s =
       record {
         form = s.1;

@@ -15,7 +15,7 @@ use Rattle.bt_desk.specs.Stands.{report_of}
 use Rattle.bt_desk.specs.declared.report.Ending.{Ending}
 use Rattle.bt_desk.specs.declared.report.Ending.TheVariants as ending
 use Rattle.bt_desk.specs.declared.report.Report.{Report}
-use Rattle.bt_intake.specs.View.{LineView}
+use Rattle.bt_commands.specs.View.{InputView}
 use Rattle.bt_commands.specs.Calls.{failed}
 use Rattle.bt_commands.specs.Lines.{no_memory_line, failure_line}
 use Rattle.bt_commands.specs.Outside.{Outside, StillTold}
@@ -162,7 +162,7 @@ pub record ArePlaced {W S K A C : Type 0} (o : Outside W S K A C) (n : ℕ) (byt
   pub input : IsTrue (o.source.tells opening.source) → o.source.bytes opening.source ≡ bytes
 
 -- the desk over what was opened, of which nothing was taken
-pub record Begun {S K A C : Type 0} (opening : Opening S K A) (c : C) (d : DeskView (LineView S) K A C) : Type 0 where
+pub record Begun {S K A C : Type 0} (opening : Opening S K A) (c : C) (d : DeskView (InputView S) K A C) : Type 0 where
   pub sources : d.intake.sources.list ≡ record { path = None; source = opening.source } ∷ []
   pub bound : d.intake.bound ≡ INPUT_BOUND
   pub given : d.intake.given ≡ 0
@@ -173,14 +173,14 @@ pub record Begun {S K A C : Type 0} (opening : Opening S K A) (c : C) (d : DeskV
   pub report : d.report ≡ report_of 0 [] None
 
 -- the desk was made of some opening without faults
-pub record IsBegun {S K A C : Type 0} (gs : Source.Ghosts S) (d : DeskView (LineView S) K A C) : Type 0 where
+pub record IsBegun {S K A C : Type 0} (gs : Source.Ghosts S) (d : DeskView (InputView S) K A C) : Type 0 where
   pub opening : Opening S K A
   pub clock : C
   pub begun : Begun opening clock d
   pub faults : gs.faults opening.source ≡ 0
 
 -- the run is ready to begin: all was read and opened, one clock was taken, and the desk was made of these
-pub record Started {W S K A C I : Type 0} (o : Outside W S K A C) (config : List ℕ) (answers : Option (List ℕ)) (d : DeskView (LineView S) K A C) (a b : Tale (Ends S K A C) I) : Type 0 where
+pub record Started {W S K A C I : Type 0} (o : Outside W S K A C) (config : List ℕ) (answers : Option (List ℕ)) (d : DeskView (InputView S) K A C) (a b : Tale (Ends S K A C) I) : Type 0 where
   pub opening : Opening S K A
   pub clock : C
   pub begun : Begun opening clock d
@@ -222,7 +222,7 @@ pub record HandsBack {W S K A C : Type 0} (o : Outside W S K A C) (opening : Ope
   pub leaves : Leaves o report source sink ends.answerer ends.clock history
 
 -- what became of a desk: what it gives back was handed to `keep`, and nothing else of what the world tells changed
-pub record Completes {W S K A C I : Type 0} (o : Outside W S K A C) (report : Report) (d : DeskView (LineView S) K A C) (a b : Tale (Ends S K A C) I) : Type 0 where
+pub record Completes {W S K A C I : Type 0} (o : Outside W S K A C) (report : Report) (d : DeskView (InputView S) K A C) (a b : Tale (Ends S K A C) I) : Type 0 where
   pub ends : Ends S K A C
   pub keeps : b ≡ record a { keeps = once_more a.keeps; kept = Some ends }
   pub hands_back : (opening : Opening S K A) (c : C) → Begun opening c d → o.source.faults opening.source ≡ 0 → HandsBack o opening c report ends

@@ -1,7 +1,7 @@
 -- What a run promises.
 use Rattle.std.specs.Prelude.{◌≡◌, ◌⊎◌, ◌↔◌, ℕ, zero, suc, ◌+◌, ◌<◌, ◌≤◌, IsTrue, List, [], ◌∷◌, ◌++◌, length, take, count_by, Option, Some, None, Result, Ok, Err}
 use Rattle.bt_ports.specs.Faults.{Rose}
-use Rattle.bt_ports.specs.Intake.{input_end, bound_met}
+use Rattle.bt_ports.specs.Intake.{input_end, bound_met, line_too_long}
 use Rattle.bt_ports.specs.World.{Tale, once_more}
 use Rattle.bt_ports.specs.declared.parts.Asked.{Asked}
 use Rattle.bt_ports.specs.declared.parts.Ends.{Ends}
@@ -10,7 +10,7 @@ use Rattle.bt_desk.specs.Stands.{report_of}
 use Rattle.bt_desk.specs.declared.report.Ending.{Ending}
 use Rattle.bt_desk.specs.declared.report.Ending.TheVariants as ending
 use Rattle.bt_desk.specs.declared.report.Report.{Report}
-use Rattle.bt_intake.specs.Lines.{batches, stop}
+use Rattle.bt_commands.specs.Input.{closed, stop}
 use Rattle.bt_commands.specs.Input.{input_of, transactions}
 use Rattle.bt_commands.specs.Outside.{Outside, StillTold}
 use Rattle.bt_run.specs.Form.{FormSays}
@@ -44,12 +44,12 @@ EndingFaults (Some ending.Bound) faults = faults ≡ 0
 EndingFaults (Some ending.NoMemory) faults = Unit {0}
 
 -- what the ending says of a source with these bytes, of which so many were taken, where so many transactions were taken:
--- all lines at the input's end and at the bound, and at a read fault each line whose line feed was taken
+-- all lines at the input's end and at the bound, all before it at a long line, and at a read fault each line whose line feed was taken
 abbrev pub EndingSays : Option Ending → (count taken : ℕ) → List ℕ → Type 0
 EndingSays None count taken bytes = ⊥
 EndingSays (Some ending.Ended) count taken bytes = (count ≡ length (transactions bytes)) × (stop INPUT_BOUND (input_of bytes) ≡ input_end)
-EndingSays (Some ending.ReadFault) count taken bytes = length (batches taken (input_of bytes)) ≤ count
-EndingSays (Some (ending.LongLine n)) count taken bytes = ⊥
+EndingSays (Some ending.ReadFault) count taken bytes = length (closed taken (input_of bytes)) ≤ count
+EndingSays (Some (ending.LongLine n)) count taken bytes = (count ≡ length (transactions bytes)) × (stop INPUT_BOUND (input_of bytes) ≡ line_too_long n)
 EndingSays (Some ending.Bound) count taken bytes = (count ≡ length (transactions bytes)) × (stop INPUT_BOUND (input_of bytes) ≡ bound_met INPUT_BOUND) × (taken ≡ INPUT_BOUND)
 EndingSays (Some ending.NoMemory) count taken bytes = Unit {0}
 

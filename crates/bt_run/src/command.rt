@@ -2,7 +2,7 @@
 ghost use Rattle.std.specs.Prelude.{◌≡◌, ◌∷◌, [], None, Some, Result, IfOk, IsTrue, IsSome, option_map, true};
 ghost use Rattle.bt_desk.specs.Calls.{IsUnread};
 ghost use Rattle.bt_desk.specs.Stands.{Stands};
-ghost use Rattle.bt_intake.specs.Answers.{Standing};
+ghost use Rattle.bt_commands.specs.Inputs.{Standing};
 ghost use Rattle.bt_ports.specs.World.{once_more};
 ghost use Rattle.bt_commands.specs.Outside.{StillTold, SameCounts, over};
 ghost use Rattle.bt_run.specs.Inside.{Begun, IsBegun, IsFresh, Started, Starts, Completes};
@@ -14,12 +14,12 @@ use crate::configuration::read_config;
 use crate::halt::Halt;
 use crate::openings::{Opening, open_answers, open_sink, open_source, without_memory};
 use crate::report::{report_status, say_report};
+use bt_commands::input::LineInput;
 use bt_commands::limits::INPUT_BOUND;
 use bt_commands::status::Status;
 use bt_desk::desk::Desk;
 use bt_desk::parts::Parts;
 use bt_desk::report::Report;
-use bt_intake::intake::LineIntake;
 use bt_ports::NoMemory;
 use bt_ports::outside::{Answerer, Clock, Intake, Sink, Source};
 use bt_ports::parts::{Ends, Named};
@@ -32,7 +32,7 @@ fn begin<S: Source, K: Sink, A: Answerer, C: Clock>(
     alloc: Global,
     opening: Opening<S, K, A>,
     clock: C,
-) -> Result<Desk<LineIntake<S>, K, A, C>, NoMemory>
+) -> Result<Desk<LineInput<S>, K, A, C>, NoMemory>
     requires fresh { IsFresh ⟦<S as Source>⟧ ⟦<K as Sink>⟧ ⟦<A as Answerer>⟧ opening }
     requires unread { IsUnread ⟦<C as Clock>⟧ clock }
     ensures { IfOk result (Begun opening clock) }
@@ -46,7 +46,7 @@ fn begin<S: Source, K: Sink, A: Answerer, C: Clock>(
     sinks.push(sink)?;
     let mut sources = Sequence::new(alloc);
     sources.push(Named { path: None, source })?;
-    let intake = LineIntake::make(alloc, sources, INPUT_BOUND)?;
+    let intake = LineInput::make(alloc, sources, INPUT_BOUND)?;
     let parts = Parts {
         intake,
         sinks,
@@ -62,7 +62,7 @@ fn start<W: World>(
     config: &str,
     answers: Option<&str>,
     world: &mut W,
-) -> Result<Desk<LineIntake<W::S>, W::K, W::A, W::C>, Halt>
+) -> Result<Desk<LineInput<W::S>, W::K, W::A, W::C>, Halt>
     ensures starts { Starts ⟦<W as World>⟧ config.now (option_map (λ path. path.now) answers.entry) result world.old world.new }
     ensures begun { IfOk result (IsBegun ⟦<W::S as Source>⟧) }
     ensures started { IsTrue (W.tells world.new)
@@ -85,13 +85,13 @@ fn start<W: World>(
 }
 
 // Hands all that was opened to the world.
-fn hand_back<W: World>(desk: Desk<LineIntake<W::S>, W::K, W::A, W::C>, world: &mut W)
+fn hand_back<W: World>(desk: Desk<LineInput<W::S>, W::K, W::A, W::C>, world: &mut W)
     requires { desk.finished ≡ true }
     ensures told { StillTold ⟦<W as World>⟧ world.old world.new }
     ensures counts { SameCounts ⟦<W as World>⟧ world.old world.new }
     ensures keeps { IsTrue (W.tells world.new) → W.tale world.new ≡ record (W.tale world.old) { keeps = once_more (W.tale world.old).keeps; kept = Some (record { sources = desk.intake.sources; sinks = desk.sinks; answerer = desk.answerer; clock = desk.clock }) } }
     ensures standing { Standing ⟦<W::S as Source>⟧ desk.intake }
-    ensures stands { Stands ⟦<LineIntake<W::S> as Intake>⟧ ⟦<W::K as Sink>⟧ ⟦<W::A as Answerer>⟧ ⟦<W::C as Clock>⟧ desk }
+    ensures stands { Stands ⟦<LineInput<W::S> as Intake>⟧ ⟦<W::K as Sink>⟧ ⟦<W::A as Answerer>⟧ ⟦<W::C as Clock>⟧ desk }
 {
     let Parts {
         intake,
@@ -108,7 +108,7 @@ fn hand_back<W: World>(desk: Desk<LineIntake<W::S>, W::K, W::A, W::C>, world: &m
 }
 
 // Carries the run to its end, and hands all that was opened to the world.
-fn complete<W: World>(mut desk: Desk<LineIntake<W::S>, W::K, W::A, W::C>, world: &mut W) -> Report
+fn complete<W: World>(mut desk: Desk<LineInput<W::S>, W::K, W::A, W::C>, world: &mut W) -> Report
     requires { IsBegun ⟦<W::S as Source>⟧ desk }
     ensures told { StillTold ⟦<W as World>⟧ world.old world.new }
     ensures counts { SameCounts ⟦<W as World>⟧ world.old world.new }
