@@ -1,7 +1,8 @@
 //! Configurations in the words of version 2.
-ghost use Rattle.std.specs.Prelude.{◌≡◌, IfOk, OnOk, map, option_map, Some, ◌++◌, ◌∷◌, [], codes, not, nat_le, true};
+ghost use Rattle.std.specs.Prelude.{◌≡◌, IfOk, OnOk, map, option_map, Some, ◌++◌, ◌∷◌, [], codes, not, nat_le, true, false};
 ghost use Rattle.bt_config.specs.Migrated as spec;
 ghost use Rattle.bt_value.specs.Depth as depths;
+ghost use Rattle.bt_value.specs.Plain.{has_bytes};
 ghost use Rattle.bt_value.specs.declared.val.Val.{Obj};
 
 use crate::reading::Config;
@@ -18,8 +19,10 @@ use std::alloc::Global;
 /// else stays.
 ///
 /// It is meant for a configuration without lints.
+#[tactic(auto, using(crate::proofs::Plain::migrated_plain))]
 pub fn migrate(alloc: Global, config: &Config) -> Result<Config, NoMemory>
-    ensures { IfOk result (λ new. new.doc ≡ spec.migrated config.now.doc) }
+    ensures moved { IfOk result (λ new. new.doc ≡ spec.migrated config.now.doc) }
+    ensures plain { has_bytes config.now.doc ≡ false → IfOk result (λ new. has_bytes new.doc ≡ false) }
 {
     let doc = migrated(alloc, &config.doc)?;
     Ok(Config { doc })

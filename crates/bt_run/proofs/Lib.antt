@@ -1,4 +1,5 @@
 pub mod Carrying
+pub mod FirstCall
 pub mod HandedBack
 pub mod Plans
 pub mod Tales

@@ -31,7 +31,7 @@ drop-get (y ∷ ys) (suc n) x e = drop-get ys n x e
 halt-counts : (h : Halt) (f f' f'' o o' o'' : ℕ) → f ≤ f' → o ≤ o' → HaltCounts h f' f'' o' o'' → HaltCounts h f f'' o o''
 halt-counts (halt.Failed zero) f f' f'' o o' o'' p q r = omega (arith, p, r)
 halt-counts (halt.Failed (suc k)) f f' f'' o o' o'' p q r = omega (arith, q, r)
-halt-counts halt.NotBuilt f f' f'' o o' o'' p q r = tt
+halt-counts (halt.Config u) f f' f'' o o' o'' p q r = tt
 halt-counts halt.NoMemory f f' f'' o o' o'' p q r = tt
 
 halted-of : {E I : Type 0} (calls : List Asked) (h : Halt) (a d : Tale E I) (cs part : List Asked) (left : List ℕ) → d ≡ record a { calls = cs; stdin = left; lines = d.lines }
@@ -60,14 +60,18 @@ module _ {E I : Type 0} (calls : List Asked) (n : ℕ) (left : List ℕ) (a b d 
       halted-of calls (halt.Failed k) a d _ (take n calls ++ failed call ∷ []) left
       (p.1 ∙ ap (λ (t : Tale E I). record t { calls = t.calls ++ failed call ∷ []; lines = d.lines }) asks)
       (append_assoc a.calls (take n calls) (failed call ∷ [])) (subst P (sym p.0) (call, e, refl))
-  halted call halt.NotBuilt e p =
+  halted call (halt.Config u) e p =
       let P : ℕ → Type 0 = λ j. take j calls ++ call ∷ [] ≡ take (suc j) calls in
-      halted-of calls halt.NotBuilt a d _ (take n calls ++ call ∷ []) left
+      halted-of calls (halt.Config u) a d _ (take n calls ++ call ∷ []) left
       (p.1 ∙ ap (λ (t : Tale E I). record t { calls = t.calls ++ call ∷ []; lines = d.lines }) asks)
       (append_assoc a.calls (take n calls) (call ∷ [])) (sym (take-get calls n call e) ∙ ap (λ (j : ℕ). take (suc j) calls) p.0)
-  halted call halt.NoMemory e p =
+  halted call halt.NoMemory e (inl p) =
       halted-of calls halt.NoMemory a d _ (take n calls) left
       (p ∙ ap (λ (t : Tale E I). record t { lines = d.lines }) asks) refl (n, refl)
+  halted call halt.NoMemory e (inr p) =
+      halted-of calls halt.NoMemory a d _ (take n calls ++ call ∷ []) left
+      (p ∙ ap (λ (t : Tale E I). record t { calls = t.calls ++ call ∷ []; lines = d.lines }) asks)
+      (append_assoc a.calls (take n calls) (call ∷ [])) (suc n, sym (take-get calls n call e))
 
 -- what is said of a call is what is said of the run that halted at it
 halted-lines : {E I : Type 0} (calls : List Asked) (n : ℕ) (call : Asked) (h : Halt) (b d : Tale E I) → slice_get calls n ≡ Some call → HaltTells n call h b d
@@ -75,14 +79,14 @@ halted-lines : {E I : Type 0} (calls : List Asked) (n : ℕ) (call : Asked) (h :
 halted-lines calls n call (halt.Failed k) b d e p =
     let P : ℕ → Type 0 = λ j. failure_line call ∷ [] ≡ map failure_line (take 1 (drop j calls)) in
     subst P (sym p.0) (ap (map failure_line) (sym (drop-get calls n call e)))
-halted-lines calls n call halt.NotBuilt b d e p = refl
+halted-lines calls n call (halt.Config u) b d e p = refl
 halted-lines calls n call halt.NoMemory b d e p = refl
 
 -- a configuration that runs, where the run halted behind the reading
 pub form-behind : {E I : Type 0} (n : ℕ) (call : Asked) (h : Halt) (b d : Tale E I) (file : Option (List ℕ)) → HaltTells (suc n) call h b d → HasBuiltForm file
     → FormSays (Err h) file
 form-behind n call (halt.Failed k) b d file p form = let P : ℕ → Type 0 = λ j. FormSays (Err (halt.Failed j)) file in subst P (sym p.0) form
-form-behind n call halt.NotBuilt b d file p form = absurd (omega (arith, p.0))
+form-behind n call (halt.Config u) b d file p form = absurd (omega (arith, p.0))
 form-behind n call halt.NoMemory b d file p form = tt
 
 module _ {W S K A C : Type 0} (g : World.Ghosts W S K A C) (config : List ℕ) (answers : Option (List ℕ)) where

@@ -12,13 +12,16 @@ use Rattle.bt_commands.specs.Outside.{Outside}
 use Rattle.bt_run.specs.Inside.{Started, Completes, StartTells}
 use Rattle.bt_run.specs.Plan.{plan}
 use Rattle.bt_run.specs.Promise.{Tells}
-use Rattle.bt_run.specs.Report.{refusal_status, StatusOf}
+use Rattle.bt_run.specs.Report.{ended_status, refusal_status, StatusOf}
 use Rattle.bt_run.specs.declared.halt.Halt.{Halt}
 use Rattle.bt_commands.specs.declared.status.Status.{Status}
 use Rattle.bt_commands.specs.declared.status.Status.TheVariants as statuses
 
 done_is_refused : statuses.Done ≡ statuses.Refused → ⊥
 done_is_refused e = cc
+
+output_is_refused : statuses.Output ≡ statuses.Refused → ⊥
+output_is_refused e = cc
 
 input_is_refused : statuses.Input ≡ statuses.Refused → ⊥
 input_is_refused e = cc
@@ -41,19 +44,23 @@ bound_is_end e = cc
 memory_is_end : Some ending.NoMemory ≡ Some ending.Ended → ⊥
 memory_is_end e = cc
 
--- status 1 comes exactly where the input was read to its end and a record was refused, as nothing is refused for memory
-pub refused-by : (e : Option Ending) (refused memory : ℕ) (s : Status) → memory ≡ 0 → StatusOf e refused memory s → (s ≡ statuses.Refused) ↔ ((e ≡ Some ending.Ended) × (0 < refused))
-refused-by None refused memory s z p = absurd p
-refused-by (Some ending.Ended) zero memory s z p =
+-- status 1 comes exactly where the input was read to its end, no answer failed and a record was refused, as nothing is refused for memory
+pub refused-by : (e : Option Ending) (failed refused memory : ℕ) (s : Status) → memory ≡ 0 → StatusOf e failed refused memory s
+    → (s ≡ statuses.Refused) ↔ ((e ≡ Some ending.Ended) × (failed ≡ 0) × (0 < refused))
+refused-by None failed refused memory s z p = absurd p
+refused-by (Some ending.Ended) (suc failed) refused memory s z p =
+    let q : ended_status (suc failed) refused memory ≡ statuses.Output = rw (lt-ltb 0 (suc failed) (omega arith)) refl in
+    (λ r. absurd (output_is_refused (sym q ∙ sym p ∙ r)), λ r. absurd (omega (arith, r.1)))
+refused-by (Some ending.Ended) zero zero memory s z p =
     let q : s ≡ refusal_status 0 0 = p ∙ ap (refusal_status 0) z in
-    (λ r. absurd (done_is_refused (sym q ∙ r)), λ r. absurd (omega (arith, r.1)))
-refused-by (Some ending.Ended) (suc n) memory s z p =
+    (λ r. absurd (done_is_refused (sym q ∙ r)), λ r. absurd (omega (arith, r.2)))
+refused-by (Some ending.Ended) zero (suc n) memory s z p =
     let q : refusal_status (suc n) 0 ≡ statuses.Refused = rw (lt-ltb 0 (suc n) (omega arith)) refl in
-    (λ r. (refl, omega arith), λ r. p ∙ ap (refusal_status (suc n)) z ∙ q)
-refused-by (Some ending.ReadFault) refused memory s z p = (λ r. absurd (input_is_refused (sym p ∙ r)), λ r. absurd (fault_is_end r.0))
-refused-by (Some (ending.LongLine n)) refused memory s z p = (λ r. absurd (bound_is_refused (sym p ∙ r)), λ r. absurd (line_is_end n r.0))
-refused-by (Some ending.Bound) refused memory s z p = (λ r. absurd (bound_is_refused (sym p ∙ r)), λ r. absurd (bound_is_end r.0))
-refused-by (Some ending.NoMemory) refused memory s z p = (λ r. absurd (memory_is_refused (sym p ∙ r)), λ r. absurd (memory_is_end r.0))
+    (λ r. (refl, refl, omega arith), λ r. p ∙ ap (refusal_status (suc n)) z ∙ q)
+refused-by (Some ending.ReadFault) failed refused memory s z p = (λ r. absurd (input_is_refused (sym p ∙ r)), λ r. absurd (fault_is_end r.0))
+refused-by (Some (ending.LongLine n)) failed refused memory s z p = (λ r. absurd (bound_is_refused (sym p ∙ r)), λ r. absurd (line_is_end n r.0))
+refused-by (Some ending.Bound) failed refused memory s z p = (λ r. absurd (bound_is_refused (sym p ∙ r)), λ r. absurd (bound_is_end r.0))
+refused-by (Some ending.NoMemory) failed refused memory s z p = (λ r. absurd (memory_is_refused (sym p ∙ r)), λ r. absurd (memory_is_end r.0))
 
 module _ {W S K A C I : Type 0} (o : Outside W S K A C) (config : List ℕ) (answers : Option (List ℕ)) where
   -- a run that was started, completed and reported

@@ -1,7 +1,8 @@
 -- What stands within a run: the calls before it begins, and the desk that carries it. Only proofs use it.
-use Rattle.std.specs.Prelude.{◌≡◌, ℕ, ◌+◌, ◌≤◌, List, [], ◌∷◌, ◌++◌, length, take, Bool, true, false, Option, None, Some, IsTrue, Result, Ok, Err, codes, slice_get}
+use Rattle.std.specs.Prelude.{◌≡◌, ◌≢◌, ◌⊎◌, ℕ, ◌+◌, ◌≤◌, List, [], ◌∷◌, ◌++◌, length, take, Bool, true, false, Option, None, Some, IsTrue, Result, Ok, Err, slice_get}
 use Rattle.bt_ports.specs.Faults.{Rose}
 use Rattle.bt_ports.specs.World.{Tale, once_more}
+use Rattle.bt_ports.specs.declared.NoMemory.{NoMemory}
 use Rattle.bt_ports.specs.declared.parts.Asked.{Asked}
 use Rattle.bt_ports.specs.declared.parts.Ends.{Ends}
 use Rattle.bt_ports.specs.declared.outside.Source as Source
@@ -18,24 +19,56 @@ use Rattle.bt_intake.specs.View.{LineView}
 use Rattle.bt_commands.specs.Calls.{failed}
 use Rattle.bt_commands.specs.Lines.{no_memory_line, failure_line}
 use Rattle.bt_commands.specs.Outside.{Outside, StillTold}
-use Rattle.bt_run.specs.Form.{HasBuiltForm, HasOtherForm, FormSays}
+use Rattle.bt_config_file.specs.declared.halt.ConfigHalt.{ConfigHalt}
+use Rattle.bt_config_file.specs.declared.halt.ConfigHalt.TheVariants as unread
+use Rattle.bt_config_file.specs.declared.linted.Linted.{Linted}
+use Rattle.bt_run.specs.Form.{HasBuiltForm, FormSays, names_parts}
 use Rattle.bt_run.specs.Plan.{plan, IsPart}
 use Rattle.bt_run.specs.Promise.{HaltCounts, Leaves, TakesAtMostOne}
-use Rattle.bt_run.specs.Report.{halt_lines}
+use Rattle.bt_run.specs.Report.{halt_lines, unfit_lines}
 use Rattle.bt_commands.specs.declared.limits.TheConstants.{INPUT_BOUND}
 use Rattle.bt_run.specs.declared.halt.Halt.{Halt}
 use Rattle.bt_run.specs.declared.halt.Halt.TheVariants as halt
+use Rattle.bt_run.specs.declared.halt.Unfit.{Unfit}
+use Rattle.bt_run.specs.declared.halt.Unfit.TheVariants as unfit
 use Rattle.bt_run.specs.declared.openings.Opening.{Opening}
 
--- which of the two forms was found
-abbrev pub FormIs : Bool → Option (List ℕ) → Type 0
-FormIs true file = HasBuiltForm file
-FormIs false file = HasOtherForm file
+-- what kept the configuration from being read is what kept the run from beginning
+abbrev pub halt_of : ConfigHalt → Halt
+halt_of unread.Unread = halt.Failed 0
+halt_of (unread.Refused r) = halt.Config (unfit.Refused r)
+halt_of unread.NoMemory = halt.NoMemory
 
--- what the file says where its form was found, or the run halted
-abbrev pub FormFound : Result Bool Halt → Option (List ℕ) → Type 0
-FormFound (Ok built) file = FormIs built file
-FormFound (Err halt) file = FormSays (Err halt) file
+-- a configuration that was read is run: it has no lint and names no parts
+abbrev pub Fits : Linted → Type 0
+Fits linted = (linted.lints ≡ []) × (names_parts linted.config.doc ≡ false)
+
+-- why one that was read isn't run
+abbrev pub IsUnfit : Linted → Unfit → Type 0
+IsUnfit linted (unfit.Refused r) = ⊥
+IsUnfit linted (unfit.Lints lints) = (lints ≡ linted.lints) × (lints ≢ [])
+IsUnfit linted unfit.NotBuilt = (linted.lints ≡ []) × (names_parts linted.config.doc ≡ true)
+
+-- what is said of it, of which a reading has said the first, or nothing where memory was wanting
+abbrev pub unfit_said : Unfit → List (List ℕ)
+unfit_said (unfit.Refused r) = []
+unfit_said (unfit.Lints lints) = unfit_lines (unfit.Lints lints)
+unfit_said unfit.NotBuilt = unfit_lines unfit.NotBuilt
+
+abbrev pub said_of : Result (Unit {0}) NoMemory → Unfit → List (List ℕ)
+said_of (Ok x) u = unfit_said u
+said_of (Err e) u = []
+
+-- so the run halts for it, or for want of memory
+abbrev pub Refuses : Unfit → Halt → Type 0
+Refuses u (halt.Failed k) = ⊥
+Refuses u (halt.Config v) = v ≡ u
+Refuses u halt.NoMemory = Unit {0}
+
+abbrev pub refused_lines : Halt → List (List ℕ)
+refused_lines (halt.Failed k) = []
+refused_lines (halt.Config u) = unfit_said u
+refused_lines halt.NoMemory = no_memory_line ∷ []
 
 -- what the file says of the reading of the configuration
 abbrev pub FormOf : {T : Type 0} → Result T Halt → Option (List ℕ) → Type 0
@@ -46,11 +79,11 @@ FormOf (Err halt) file = FormSays (Err halt) file
 abbrev pub Asks : {E I : Type 0} → List Asked → List ℕ → Tale E I → Tale E I → Type 0
 Asks part left a b = b ≡ record a { calls = a.calls ++ part; stdin = left }
 
--- what the world tells where the run halted at the call at place k of its plan
+-- What the world tells where the run halted at the call at place k of its plan. Where memory was wanting, the call was made or not.
 abbrev pub HaltTells : {E I : Type 0} → (k : ℕ) → Asked → Halt → Tale E I → Tale E I → Type 0
 HaltTells k call (halt.Failed j) a b = (j ≡ k) × (b ≡ record a { calls = a.calls ++ failed call ∷ []; lines = b.lines })
-HaltTells k call halt.NotBuilt a b = (k ≡ 0) × (b ≡ record a { calls = a.calls ++ call ∷ []; lines = b.lines })
-HaltTells k call halt.NoMemory a b = b ≡ record a { lines = b.lines }
+HaltTells k call (halt.Config u) a b = (k ≡ 0) × (b ≡ record a { calls = a.calls ++ call ∷ []; lines = b.lines })
+HaltTells k call halt.NoMemory a b = (b ≡ record a { lines = b.lines }) ⊎ (b ≡ record a { calls = a.calls ++ call ∷ []; lines = b.lines })
 
 -- what it tells of that call: it was answered, or the run halted at it
 abbrev pub CallTells : {T E I : Type 0} → (k : ℕ) → Asked → (left : List ℕ) → Result T Halt → Tale E I → Tale E I → Type 0
@@ -60,7 +93,7 @@ CallTells k call left (Err halt) a b = HaltTells k call halt a b
 -- what is said of it
 abbrev pub halt_lines_at : Asked → Halt → List (List ℕ)
 halt_lines_at call (halt.Failed k) = failure_line call ∷ []
-halt_lines_at call halt.NotBuilt = codes "config: not built" ∷ []
+halt_lines_at call (halt.Config u) = unfit_lines u
 halt_lines_at call halt.NoMemory = no_memory_line ∷ []
 
 abbrev pub call_lines : {T : Type 0} → Asked → Result T Halt → List (List ℕ)

@@ -26,7 +26,7 @@ use Rattle.bt_commands.specs.declared.status.Status.TheVariants as statuses
 abbrev pub HaltCounts : Halt → (files files' opens opens' : ℕ) → Type 0
 HaltCounts (halt.Failed zero) files files' opens opens' = Rose files files'
 HaltCounts (halt.Failed (suc k)) files files' opens opens' = Rose opens opens'
-HaltCounts halt.NotBuilt files files' opens opens' = Unit {0}
+HaltCounts (halt.Config u) files files' opens opens' = Unit {0}
 HaltCounts halt.NoMemory files files' opens opens' = Unit {0}
 
 abbrev pub Counts : Result Report Halt → (files files' opens opens' : ℕ) → Type 0
@@ -108,9 +108,9 @@ abbrev pub KeepsBy : {W S K A C I : Type 0} → Outside W S K A C → Result Rep
 KeepsBy o (Ok report) a b = Keeps o report a b
 KeepsBy o (Err halt) a b = KeepsNothing a b
 
--- the run read its input to the end, and a record was refused
+-- the run read its input to the end, no answer failed, and a record was refused
 abbrev pub RefusedARecord : Result Report Halt → Type 0
-RefusedARecord (Ok report) = (report.ending ≡ Some ending.Ended) × (0 < report.refused)
+RefusedARecord (Ok report) = (report.ending ≡ Some ending.Ended) × (report.answer_faults ≡ 0) × (0 < report.refused)
 RefusedARecord (Err halt) = ⊥
 
 -- what the world tells of a run
@@ -134,7 +134,7 @@ pub record RunEnds {W S K A C : Type 0} (o : Outside W S K A C) (config : List �
   pub lines : IsTrue (o.world.tells b) → IsTrue (o.world.tells_lines b) → (o.world.tale b).lines ≡ (o.world.tale a).lines ++ run_lines run (plan config answers)
 
 -- a run of the configuration in the file `config`, with the answers in the file `answers` where there is one, from a to b.
--- Status 1 says that a record was refused in a run that ended by its input's end, and the other way round
+-- Status 1 says that a record was refused in a run that ended by its input's end and of which no answer failed, and the other way round
 pub record RunPromise {W S K A C : Type 0} (o : Outside W S K A C) (config : List ℕ) (answers : Option (List ℕ)) (result : Status) (a b : W) : Type 0 where
   pub run : Result Report Halt
   pub ends : RunEnds o config answers run a b

@@ -10,8 +10,9 @@ ghost use Rattle.bt_run.specs.Promise.{RunEnds, RunPromise};
 ghost use Rattle.bt_run.specs.declared.halt.Halt.{Halt};
 
 use crate::carry::carry;
+use crate::configuration::read_config;
 use crate::halt::Halt;
-use crate::openings::{Opening, open_answers, open_sink, open_source, out_of_memory, read_config};
+use crate::openings::{Opening, open_answers, open_sink, open_source, without_memory};
 use crate::report::{report_status, say_report};
 use bt_commands::limits::INPUT_BOUND;
 use bt_commands::status::Status;
@@ -79,7 +80,7 @@ fn start<W: World>(
     };
     match begin(alloc, opening, clock) {
         Ok(desk) => Ok(desk),
-        Err(NoMemory) => Err(out_of_memory(world)),
+        Err(NoMemory) => Err(without_memory(world)),
     }
 }
 
@@ -156,7 +157,7 @@ pub fn run_one<W: World>(
     match run(alloc, config, answers, world) {
         Ok(report) => report_status(&report),
         Err(Halt::Failed(_)) => Status::Input,
-        Err(Halt::NotBuilt) => Status::Config,
+        Err(Halt::Config(_)) => Status::Config,
         Err(Halt::NoMemory) => Status::Memory,
     }
 }

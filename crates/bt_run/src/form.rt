@@ -1,26 +1,24 @@
-//! The one form of a configuration that runs today.
-ghost use Rattle.std.specs.Prelude.{◌≡◌, ◌↔◌, IsTrue};
-ghost use Rattle.bt_run.specs.Form.{IsEmptyObject, is_blank};
+//! The form of configurations that run today.
+ghost use Rattle.std.specs.Prelude.{◌≡◌, is_some};
+ghost use Rattle.bt_run.specs.Form as spec;
+ghost use Rattle.bt_value.specs.Keys.{find};
 
-fn is_blank(byte: u8) -> bool
-    ensures { result ≡ is_blank byte }
+use bt_value::{Members, Val};
+
+fn has(members: &Members, key: &str) -> bool
+    ensures { result ≡ is_some (find key.now members.now) }
 {
-    matches!(byte, b' ' | b'\t' | b'\r' | b'\n')
+    members.find(key).is_some()
 }
 
-/// Whether the bytes without spaces, tabs, carriage returns and line feeds are `{}`.
-pub(crate) fn is_empty_object(bytes: &[u8]) -> bool
-    ensures { IsTrue result ↔ IsEmptyObject bytes.now }
+/// Whether the configuration names an input, a pipeline or an output.
+pub(crate) fn names_parts(config: &Val) -> bool
+    ensures { result ≡ spec.names_parts config.now }
 {
-    let mut wanted: &[u8] = b"{}";
-    for b in bytes {
-        if is_blank(*b) {
-            continue;
+    match config {
+        Val::Obj(members) => {
+            has(members, "input") || has(members, "pipeline") || has(members, "output")
         }
-        match wanted.split_first() {
-            Some((first, rest)) if first == b => wanted = rest,
-            _ => return false,
-        }
+        _ => false,
     }
-    wanted.is_empty()
 }

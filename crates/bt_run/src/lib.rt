@@ -3,6 +3,7 @@
 
 mod carry;
 pub mod command;
+mod configuration;
 mod form;
 pub mod halt;
 mod lines;

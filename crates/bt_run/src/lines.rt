@@ -1,9 +1,20 @@
 //! The lines of a run's report.
 ghost use Rattle.std.specs.Prelude.{◌≡◌};
-ghost use Rattle.bt_run.specs.Report.{taken_line, releases_line};
+ghost use Rattle.bt_run.specs.Report.{answers_line, taken_line, releases_line};
 
 use bt_commands::lines::{Line, push_number};
 use bt_desk::report::Report;
+
+/// `answers: N faults`.
+pub(crate) fn answers_line(n: u64) -> Line
+    ensures { result.bytes ≡ answers_line n }
+{
+    let mut line = Line::new();
+    line.push_str("answers: ");
+    push_number(&mut line, n);
+    line.push_str(" faults");
+    line
+}
 
 /// `taken T acknowledged A refused R`.
 pub(crate) fn taken_line(report: &Report) -> Line

@@ -1,16 +1,15 @@
-//! What a run reads and opens before it begins, each once and in the order of its plan.
+//! What a run opens before it begins, each once and in the order of its plan.
 ghost use Rattle.std.specs.Prelude.{◌≡◌, ◌+◌, ◌∷◌, [], length, IfOk, IsTrue, option_map, string_bytes};
 ghost use Rattle.bt_commands.specs.Calls.{source_opening};
 ghost use Rattle.bt_commands.specs.Lines.{failure_line, no_memory_line};
 ghost use Rattle.bt_commands.specs.Outside.{SaysOnly};
-ghost use Rattle.bt_run.specs.Inside.{MakesCall, FormFound, FormOf};
-ghost use Rattle.bt_run.specs.Plan.{reading, sink_opening, answers_opening};
+ghost use Rattle.bt_run.specs.Inside.{MakesCall};
+ghost use Rattle.bt_run.specs.Plan.{sink_opening, answers_opening};
 
-use crate::form::is_empty_object;
 use crate::halt::Halt;
-use bt_commands::limits::CONFIG_LIMIT;
+use bt_config_file::out_of_memory;
 use bt_ports::outside::{Answerer, Sink, Source};
-use bt_ports::parts::{FileRead, Opened};
+use bt_ports::parts::Opened;
 use bt_ports::world::World;
 use std::alloc::{AllocError, Global};
 
@@ -23,47 +22,12 @@ pub(crate) struct Opening<S, K, A> {
 }
 
 /// Says that memory is wanting.
-pub(crate) fn out_of_memory<W: World>(world: &mut W) -> Halt
+pub(crate) fn without_memory<W: World>(world: &mut W) -> Halt
     ensures halt { result ≡ Halt.NoMemory }
     ensures says { SaysOnly ⟦<W as World>⟧ (no_memory_line ∷ []) world.old world.new }
 {
-    world.err(b"no memory");
+    out_of_memory(world);
     Halt::NoMemory
-}
-
-// Reads the configuration, and says whether it is of the form that runs.
-fn read_form<W: World>(alloc: Global, config: &str, world: &mut W) -> Result<bool, Halt>
-    ensures makes { MakesCall ⟦<W as World>⟧ 0 (reading config.now) (W.tale world.old).stdin result world.old world.new }
-    ensures form { IsTrue (W.tells world.new) → FormFound result ((W.tale world.old).files config.now) }
-{
-    let unread = match format!(in alloc; "file {config}: cannot read") {
-        Ok(line) => line,
-        Err(_) => return Err(out_of_memory(world)),
-    };
-    match world.read_file(config, CONFIG_LIMIT) {
-        FileRead::Bytes(bytes) => Ok(is_empty_object(bytes.as_slice())),
-        FileRead::TooLong => Ok(false),
-        FileRead::Failed => {
-            world.err(unread.as_bytes());
-            Err(Halt::Failed(0))
-        }
-        FileRead::NoMemory => Err(out_of_memory(world)),
-    }
-}
-
-/// Reads the configuration, and goes on where it is of the form that runs.
-pub(crate) fn read_config<W: World>(alloc: Global, config: &str, world: &mut W) -> Result<(), Halt>
-    ensures makes { MakesCall ⟦<W as World>⟧ 0 (reading config.now) (W.tale world.old).stdin result world.old world.new }
-    ensures form { IsTrue (W.tells world.new) → FormOf result ((W.tale world.old).files config.now) }
-{
-    match read_form(alloc, config, world) {
-        Ok(true) => Ok(()),
-        Ok(false) => {
-            world.err(b"config: not built");
-            Err(Halt::NotBuilt)
-        }
-        Err(halt) => Err(halt),
-    }
 }
 
 /// Opens the sink, which writes a line feed after each message.
@@ -78,7 +42,7 @@ pub(crate) fn open_sink<W: World>(world: &mut W) -> Result<W::K, Halt>
             world.err(b"sink stdout: cannot open");
             Err(Halt::Failed(1))
         }
-        Opened::NoMemory => Err(out_of_memory(world)),
+        Opened::NoMemory => Err(without_memory(world)),
     }
 }
 
@@ -102,7 +66,7 @@ pub(crate) fn open_answers<W: World>(
 {
     let no_answers = match no_answers_line(alloc, answers) {
         Ok(line) => line,
-        Err(_) => return Err(out_of_memory(world)),
+        Err(_) => return Err(without_memory(world)),
     };
     match world.open_answers(answers) {
         Opened::Got(answerer) => Ok(answerer),
@@ -110,7 +74,7 @@ pub(crate) fn open_answers<W: World>(
             world.err(no_answers.as_bytes());
             Err(Halt::Failed(2))
         }
-        Opened::NoMemory => Err(out_of_memory(world)),
+        Opened::NoMemory => Err(without_memory(world)),
     }
 }
 
@@ -127,6 +91,6 @@ pub(crate) fn open_source<W: World>(world: &mut W) -> Result<W::S, Halt>
             world.err(b"source stdin: cannot open");
             Err(Halt::Failed(3))
         }
-        Opened::NoMemory => Err(out_of_memory(world)),
+        Opened::NoMemory => Err(without_memory(world)),
     }
 }

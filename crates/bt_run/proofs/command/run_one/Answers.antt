@@ -9,5 +9,5 @@ returns-in-Ok g c =
       run = _;
       ends = ends;
       status = c.report_status.ensures;
-      refusal = λ t. refused-by _ _ _ _ (ap (λ r. r.refused_memory) (ends.tells t).keeps.leaves.counts) c.report_status.ensures;
+      refusal = λ t. refused-by _ _ _ _ _ (ap (λ r. r.refused_memory) (ends.tells t).keeps.leaves.counts) c.report_status.ensures;
     }

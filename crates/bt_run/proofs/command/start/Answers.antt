@@ -2,7 +2,8 @@ use Rattle.std.proofs.Common.{[], ℕ, List, option_map, Bor, refl, ap, ◌∙�
 use Rattle.std.proofs.lemmas.Result.{err_from_is_err_and}
 use Rattle.bt_commands.specs.Calls.{source_opening}
 use Rattle.bt_run.specs.Inside.{Reached}
-use Rattle.bt_run.specs.Plan.{plan, reading, sink_opening, answers_opening}
+use Rattle.bt_config_file.specs.Reading.{config_reading}
+use Rattle.bt_run.specs.Plan.{plan, sink_opening, answers_opening}
 use Rattle.bt_run.proofs.Plans.{reached-first, reached-then, reached-length, starts-halted, starts-unread, starts-out_of_memory, starts-ready, form-behind}
 use Rattle.bt_run.proofs.Tales.{clock-then}
 use Rattle.bt_run.proofs.command.start.Given.{Over}
@@ -11,21 +12,21 @@ use Rattle.bt_run.proofs.command.start.Goals.{In_ok-read_config, In_ok-sink, In_
 
 -- the calls that were answered, one behind the other
 read : (g : Over) (c : In_ok-read_config g) → Reached g.W.World 1 (plan c.args.config.now (option_map {T = Bor (List ℕ)} (λ p. p.now) c.args.answers)) (g.W.World.tale c.args.world.now).stdin c.args.world.now c.read_config.new.world
-read g c = reached-first g.W.World c.args.config.now _ _ (reading c.args.config.now) _ _ _ refl c.in_ok-read_config.ensures.makes
+read g c = reached-first g.W.World c.args.config.now _ _ (config_reading c.args.config.now) _ _ _ refl c.in_ok-read_config.ensures.makes
 
 sink : (g : Over) (c : In_ok-sink g) → Reached g.W.World 2 (plan c.args.config.now (option_map {T = Bor (List ℕ)} (λ p. p.now) c.args.answers)) (g.W.World.tale c.read_config.new.world).stdin c.args.world.now c.open_sink.new.world
-sink g c = reached-then g.W.World c.args.config.now _ 1 _ sink_opening _ _ _ _ _ refl (reached-first g.W.World c.args.config.now _ _ (reading c.args.config.now) _ _ _ refl c.in_ok-read_config.ensures.makes) c.in_ok-sink.ensures.makes
+sink g c = reached-then g.W.World c.args.config.now _ 1 _ sink_opening _ _ _ _ _ refl (reached-first g.W.World c.args.config.now _ _ (config_reading c.args.config.now) _ _ _ refl c.in_ok-read_config.ensures.makes) c.in_ok-sink.ensures.makes
 
 answered : (g : Over) (c : In_ok-answerer g) → Reached g.W.World 3 (plan c.args.config.now (option_map {T = Bor (List ℕ)} (λ p. p.now) c.args.answers)) (g.W.World.tale c.open_sink.new.world).stdin c.args.world.now c.open_answers.new.world
-answered g c = reached-then g.W.World c.args.config.now _ 2 _ (answers_opening (option_map {T = Bor (List ℕ)} (λ p. p.now) c.args.answers)) _ _ _ _ _ refl (reached-then g.W.World c.args.config.now _ 1 _ sink_opening _ _ _ _ _ refl (reached-first g.W.World c.args.config.now _ _ (reading c.args.config.now) _ _ _ refl c.in_ok-read_config.ensures.makes) c.in_ok-sink.ensures.makes) c.in_ok-answerer.ensures.makes
+answered g c = reached-then g.W.World c.args.config.now _ 2 _ (answers_opening (option_map {T = Bor (List ℕ)} (λ p. p.now) c.args.answers)) _ _ _ _ _ refl (reached-then g.W.World c.args.config.now _ 1 _ sink_opening _ _ _ _ _ refl (reached-first g.W.World c.args.config.now _ _ (config_reading c.args.config.now) _ _ _ refl c.in_ok-read_config.ensures.makes) c.in_ok-sink.ensures.makes) c.in_ok-answerer.ensures.makes
 
 all : (g : Over) (c : In_ok-source g) → Reached g.W.World 4 (plan c.args.config.now (option_map {T = Bor (List ℕ)} (λ p. p.now) c.args.answers)) [] c.args.world.now c.open_source.new.world
-all g c = reached-then g.W.World c.args.config.now _ 3 _ source_opening _ _ _ _ _ refl (reached-then g.W.World c.args.config.now _ 2 _ (answers_opening (option_map {T = Bor (List ℕ)} (λ p. p.now) c.args.answers)) _ _ _ _ _ refl (reached-then g.W.World c.args.config.now _ 1 _ sink_opening _ _ _ _ _ refl (reached-first g.W.World c.args.config.now _ _ (reading c.args.config.now) _ _ _ refl c.in_ok-read_config.ensures.makes) c.in_ok-sink.ensures.makes) c.in_ok-answerer.ensures.makes) c.in_ok-source.ensures.makes
+all g c = reached-then g.W.World c.args.config.now _ 3 _ source_opening _ _ _ _ _ refl (reached-then g.W.World c.args.config.now _ 2 _ (answers_opening (option_map {T = Bor (List ℕ)} (λ p. p.now) c.args.answers)) _ _ _ _ _ refl (reached-then g.W.World c.args.config.now _ 1 _ sink_opening _ _ _ _ _ refl (reached-first g.W.World c.args.config.now _ _ (config_reading c.args.config.now) _ _ _ refl c.in_ok-read_config.ensures.makes) c.in_ok-sink.ensures.makes) c.in_ok-answerer.ensures.makes) c.in_ok-source.ensures.makes
 
 pub returns-in_err-read_config-clause-starts : goal.returns-in_err-read_config-clause-starts
 returns-in_err-read_config-clause-starts g c =
     let p = err_from_is_err_and c.from_residual.result c.from_residual.ensures.1 in
-    rw (p.1, p.2) (starts-unread g.W.World c.args.config.now _ (reading c.args.config.now) _ _ _ _ refl c.in_err-read_config.ensures.makes c.in_err-read_config.ensures.form)
+    rw (p.1, p.2) (starts-unread g.W.World c.args.config.now _ (config_reading c.args.config.now) _ _ _ _ refl c.in_err-read_config.ensures.makes c.in_err-read_config.ensures.form)
 
 pub returns-in_err-sink-clause-starts : goal.returns-in_err-sink-clause-starts
 returns-in_err-sink-clause-starts g c =
@@ -54,7 +55,7 @@ returns-in_err-source-clause-starts g c =
 pub returns-in-Err-clause-starts : goal.returns-in-Err-clause-starts
 returns-in-Err-clause-starts g c =
     let clock = c.take_clock-clock.ensures in
-    starts-out_of_memory g.W.World c.args.config.now _ _ _ _ _ _ _ c.out_of_memory.ensures.halt (all g (goal.at.returns-in-Err-clause-starts g c).In_ok-source) clock.told clock.steady clock.takes c.out_of_memory.ensures.says
+    starts-out_of_memory g.W.World c.args.config.now _ _ _ _ _ _ _ c.without_memory.ensures.halt (all g (goal.at.returns-in-Err-clause-starts g c).In_ok-source) clock.told clock.steady clock.takes c.without_memory.ensures.says
 
 pub returns-in-Ok-clause-starts : goal.returns-in-Ok-clause-starts
 returns-in-Ok-clause-starts g c =

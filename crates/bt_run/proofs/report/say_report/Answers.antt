@@ -10,7 +10,7 @@ grown a b c d e t t' r r' p q s u v =
 
 pub returns : goal.returns
 returns g c =
-    let first = c.say_ending.ensures in
+    let first = c.say_fault.ensures in
     let second = c.err.ensures in
     let third = c.err-2.ensures in
     record {
@@ -28,7 +28,7 @@ returns g c =
           let t1 = third.told.0 t in
           let t0 = second.told.0 t1 in
           let start = g.W.World.tale c.args.world.now in
-          let one = g.W.World.tale c.say_ending.new.world in
+          let one = g.W.World.tale c.say_fault.new.world in
           let two = g.W.World.tale c.err.new.self in
           let three = g.W.World.tale c.err-2.new.self in
           says-then start two three (says-then start one two (first.only t0) (second.same t1)) (third.same t);
