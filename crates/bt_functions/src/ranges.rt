@@ -1,5 +1,6 @@
 //! Numbers by steps.
-ghost use Rattle.std.specs.Prelude.{◌≡◌, ◌≤◌, ◌+ℤ◌, ◌*ℤ◌, pos, IfOk, false};
+ghost use Rattle.std.specs.Prelude.{◌≡◌, ◌≤◌, ◌<◌, ◌+ℤ◌, ◌*ℤ◌, ℕ, pos, IfOk, FitsSigned, false};
+ghost use Rattle.std.specs.Int.{w64};
 ghost use Rattle.bt_kinds.specs.Operators as operators;
 ghost use Rattle.bt_meaning.specs.Functions as spec;
 
@@ -58,32 +59,32 @@ impl Progression {
         self.from as i128 + i as i128 * self.step as i128
     }
 
-    /// The same, in 64 bits.
-    fn item(&self, i: u64) -> Result<i64, NoMemory>
-        requires { i ≤ 1000000 }
-        ensures { IfOk result (λ n. n ≡ self.now.from +ℤ pos i *ℤ self.now.step) }
+    /// The same, where it fits 64 bits.
+    fn item(&self, i: u64) -> i64
+        requires few { i ≤ 1000000 }
+        requires fits { FitsSigned w64 (self.now.from +ℤ pos i *ℤ self.now.step) }
+        ensures { result ≡ self.now.from +ℤ pos i *ℤ self.now.step }
     {
-        match i64::try_from(self.at(i)) {
-            Ok(n) => Ok(n),
-            Err(_) => Err(NoMemory),
-        }
+        self.at(i) as i64
     }
 
     /// So many of them.
     #[tactic(auto, using(crate::proofs::Steps::items_none, crate::proofs::Steps::items_more))]
     fn items(&self, alloc: Global, n: u64) -> Result<Vals, NoMemory>
-        requires { n ≤ 1000000 }
+        requires few { n ≤ 1000000 }
+        requires fit { (i : ℕ) → i < n → FitsSigned w64 (self.now.from +ℤ pos i *ℤ self.now.step) }
         ensures { IfOk result (λ xs. xs ≡ spec.range_items self.now.from self.now.step n) }
     {
         let mut got = Items::new(alloc);
         for i in 0..n {
-            got.push(Val::Int(self.item(i)?))?;
+            got.push(Val::Int(self.item(i)))?;
         }
         Ok(got)
     }
 }
 
 fn range_from(alloc: Global, a: i64, s: i64, n: u128) -> Result<Out, NoMemory>
+    requires { (i : ℕ) → i < n → FitsSigned w64 (a +ℤ pos i *ℤ s) }
     ensures { IfOk result (λ o. o ≡ spec.range_from a s n) }
 {
     if n > MOST {

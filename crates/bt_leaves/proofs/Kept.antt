@@ -1,5 +1,6 @@
 -- What no step changes of a demand, and what is said of its leaves beside its steps.
 use Rattle.std.proofs.Common.{◌≡◌, ℕ, Bool, true, false, ◌||◌, ◌∷◌, arith, refl, sym, ap, ◌∙◌, subst}
+use Rattle.std.specs.List.{AllByRecursion}
 use Rattle.bt_demand.specs.Find.{begun, some_begun, tried, reached}
 use Rattle.bt_demand.specs.Flushing.{InOrder}
 use Rattle.bt_demand.specs.Recorded.{untried, untried_in}
@@ -10,6 +11,7 @@ use Rattle.bt_demand.specs.declared.demand.Stage.{Stage}
 use Rattle.bt_demand.specs.declared.demand.Stage.TheVariants.{Untried as Idle, Waiting, Released}
 use Rattle.bt_demand.specs.declared.demand.State.{State}
 use Rattle.bt_demand.specs.declared.demand.State.TheVariants.{Untried as Fresh, Good, Bad}
+use Rattle.bt_demand.proofs.Lists.{all-left, all-right}
 use Rattle.bt_demand.proofs.Moves.{settle_steps, wait_steps, release_steps}
 use Rattle.bt_demand.proofs.Order.{in-order}
 use Rattle.bt_demand.proofs.Shapes.{moves-untried, moves-begun}
@@ -139,18 +141,19 @@ or_right true b e = cc
 or_right false b e = e
 
 mutual
-  -- of a tree of which nothing was tried each leaf is untried
-  pub fresh_by : (T : ℕ → ℕ → State → Type 0) (t : Tree) → begun t ≡ false → ((k m : ℕ) → T k m Fresh) → EachLeaf T t
-  fresh_by T (leaf l k b x) e f = subst (λ y. T k l y) (sym (tried_none x e)) (f k l)
-  fresh_by T nothing e f = tt
-  fresh_by T (reject w) e f = tt
-  fresh_by T (all ts) e f = fresh_by_in T ts e f
-  fresh_by T (first ts) e f = fresh_by_in T ts e f
-  fresh_by T (hold m i z c g) e f = fresh_by T c (or_right (reached g) (begun c) e) f
+  -- of a tree of which nothing was tried each leaf is untried, and what is so of untried leaves of its sinks is so of each
+  pub fresh_by : (T : ℕ → ℕ → State → Type 0) (Q : ℕ → Type 0) (t : Tree) → begun t ≡ false → AllByRecursion Q (sinks t) → ((k m : ℕ) → Q k → T k m Fresh) → EachLeaf T t
+  fresh_by T Q (leaf l k b x) e s f = subst (λ y. T k l y) (sym (tried_none x e)) (f k l s.0)
+  fresh_by T Q nothing e s f = tt
+  fresh_by T Q (reject w) e s f = tt
+  fresh_by T Q (all ts) e s f = fresh_by_in T Q ts e s f
+  fresh_by T Q (first ts) e s f = fresh_by_in T Q ts e s f
+  fresh_by T Q (hold m i z c g) e s f = fresh_by T Q c (or_right (reached g) (begun c) e) s f
 
-  fresh_by_in : (T : ℕ → ℕ → State → Type 0) (ts : Trees) → some_begun ts ≡ false → ((k m : ℕ) → T k m Fresh) → EachLeafIn T ts
-  fresh_by_in T none e f = tt
-  fresh_by_in T (more t ts) e f = (fresh_by T t (or_left (begun t) (some_begun ts) e) f, fresh_by_in T ts (or_right (begun t) (some_begun ts) e) f)
+  fresh_by_in : (T : ℕ → ℕ → State → Type 0) (Q : ℕ → Type 0) (ts : Trees) → some_begun ts ≡ false → AllByRecursion Q (sinks_in ts) → ((k m : ℕ) → Q k → T k m Fresh) → EachLeafIn T ts
+  fresh_by_in T Q none e s f = tt
+  fresh_by_in T Q (more t ts) e s f =
+      (fresh_by T Q t (or_left (begun t) (some_begun ts) e) (all-left Q (sinks t) (sinks_in ts) s) f, fresh_by_in T Q ts (or_right (begun t) (some_begun ts) e) (all-right Q (sinks t) (sinks_in ts) s) f)
 
 mutual
   pub fresh_untried : (t : Tree) → begun t ≡ false → untried t ≡ t

@@ -1,5 +1,5 @@
 -- A flush of what rests closes all that is open, and a delivery ends at rest.
-use Rattle.std.proofs.Common.{◌≡◌, ◌≢◌, ℕ, zero, suc, ◌<◌, ◌≤◌, Bool, true, false, cond, List, [], ◌∷◌, length, get_or, ◌⊎◌, inl, inr, arith, refl, sym, ap, subst}
+use Rattle.std.proofs.Common.{◌≡◌, ◌≢◌, ℕ, zero, suc, ◌<◌, ◌≤◌, Bool, true, false, cond, List, [], ◌∷◌, length, get_or, ◌⊎◌, inl, inr, arith, refl, sym, ap, ◌∙◌, subst, get_or-set_same, get_or-set_other}
 use Rattle.std.proofs.lemmas.Bool.Decides.{eqb_tells, leb_tells}
 use Rattle.bt_demand.specs.Find.{begun}
 use Rattle.bt_demand.specs.Flushing.{Still}
@@ -11,11 +11,14 @@ use Rattle.bt_demand.specs.Tree.{Tree}
 use Rattle.bt_demand.proofs.Shapes.{still-settled}
 use Rattle.bt_ledger.specs.Book.{Booked}
 use Rattle.bt_ledger.specs.Due.{unanswered, counts_for, open_parts, times}
-use Rattle.bt_ledger.specs.Ledger.{Ledger, slot_at, parts_in, is_given, answered_in, part_tree, over_parts, held}
+use Rattle.bt_ledger.specs.Ledger.{Ledger, slot_at, parts_in, is_given, answered_in, part_tree, over_parts, held, with_slot}
 use Rattle.bt_ledger.specs.Open.{tree_of}
 use Rattle.bt_ledger.specs.declared.slot.Slot.{Slot}
 use Rattle.bt_ledger.specs.declared.slot.Slot.TheVariants.{Free, Out, Given}
 use Rattle.bt_ledger.proofs.Slots.{sum_under}
+use Rattle.bt_ledger.proofs.BookSlots.{tree_same}
+use Rattle.bt_moves.proofs.Keeping.{closed_rest}
+use Rattle.bt_moves.proofs.Ripening.{calms_trees}
 use Rattle.bt_moves.specs.Moves.{SlotStays, Keeps, RipensNone}
 use Rattle.bt_moves.specs.Resting.{Unfinished, AtRest, Unripe, BegunStill, Emptied, Delivering, Resting}
 use Rattle.bt_moves.proofs.Ordering.{chains_zero, slot_in}
@@ -114,3 +117,22 @@ open_has_waiting l s r g = elim (leb_tells 1 (over_parts waiting (parts_in (slot
       let i = some_unanswered (answered_in (slot_at l s)) some in
       absurd (rest.0 i.0 (i.1.0, i.1.1, none_open (parts_in (slot_at l s)) i.0 settled)))
 ]
+
+without : (x : Slot) → is_given x ≡ false → parts_in x ≡ []
+without Free e = refl
+without (Out n m i) e = refl
+without (Given o) e = cc
+
+-- a slot that isn't given becomes another one that isn't
+pub resting_slot : (l : Ledger) (s : ℕ) (x : Slot) → s < length l.slots → is_given (slot_at l s) ≡ false → is_given x ≡ false → Resting l → Resting (with_slot l s x)
+resting_slot l s x w e f r =
+    let none : parts_in x ≡ parts_in (slot_at l s) = without x f ∙ sym (without (slot_at l s) e) in
+    let trees = tree_same l s x w none in
+    record {
+      quiet = λ a b. subst (λ t. Still (todo t)) (sym (trees a b)) (r.quiet a b);
+      rest = λ a. elim (eqb_tells a s) [
+        | inl i ↦ subst (λ q. AtRest (with_slot l s x) q) (sym i.1) (closed_rest (with_slot l s x) s (ap is_given (get_or-set_same l.slots s x Free w) ∙ f))
+        | inr i ↦ rw (get_or-set_other l.slots s a x Free i.1) (r.rest a)
+      ];
+      calm = λ n. calms_trees l (with_slot l s x) refl refl trees n (r.calm n);
+    }

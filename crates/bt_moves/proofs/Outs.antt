@@ -1,10 +1,10 @@
 -- What is out stays as it is.
-use Rattle.std.proofs.Common.{◌≡◌, ℕ, ◌<◌, true, false, length, ◌⊎◌, inl, inr, refl, sym, ap, ◌∙◌, subst, get_or-set_same, get_or-set_other}
+use Rattle.std.proofs.Common.{◌≡◌, ◌≢◌, ℕ, ◌<◌, true, false, length, ◌⊎◌, inl, inr, refl, sym, ap, ◌∙◌, subst, get_or-set_same, get_or-set_other}
 use Rattle.std.proofs.lemmas.Bool.Decides.{eqb_tells}
 use Rattle.bt_ledger.specs.Ledger.{Ledger, slot_at, is_given, with_slot}
 use Rattle.bt_ledger.specs.declared.slot.Slot.{Slot}
 use Rattle.bt_ledger.specs.declared.slot.Slot.TheVariants.{Free, Out, Given}
-use Rattle.bt_moves.specs.Moves.{StepAt, Answering, OutStays, is_out}
+use Rattle.bt_moves.specs.Moves.{StepAt, Answering, OutStays, is_out, Delivered}
 
 not_out : (x : Slot) → is_given x ≡ true → is_out x ≡ false
 not_out Free e = cc
@@ -40,3 +40,16 @@ outs_close l s w g = λ a. elim (eqb_tells a s) [
   | inl i ↦ inl (subst (λ x. is_given (slot_at l x) ≡ true) (sym i.1) g, ap is_out (ap (λ j. slot_at (with_slot l s Free) j) i.1 ∙ get_or-set_same l.slots s Free Free w))
   | inr i ↦ inr (get_or-set_other l.slots s a Free Free i.1)
 ]
+
+-- a slot of a transaction that is out becomes one that isn't, and what is out stays
+pub delivered_by : (l m : Ledger) (s : ℕ) (x : Slot) → s < length l.slots → is_out x ≡ false → OutStays (with_slot l s x) m → Delivered s l m
+delivered_by l m s x w e f = (
+  elim (f s) [
+    | inl h ↦ h.1
+    | inr h ↦ ap is_out h ∙ (ap is_out (get_or-set_same l.slots s x Free w) ∙ e)
+  ],
+  λ a d. elim (f a) [
+    | inl h ↦ inl (ap is_given (sym (get_or-set_other l.slots s a x Free d)) ∙ h.0, h.1)
+    | inr h ↦ inr (h ∙ get_or-set_other l.slots s a x Free d)
+  ],
+)

@@ -128,3 +128,7 @@ empty_unripe l n e = subst (λ cs. reason_at (policy_at l n) (length cs) (sizes 
 
 pub calms_but : (k : ℕ) (l m : Ledger) → RipensBut k l m → Unripe m k → RipensNone l m
 calms_but k l m f u = λ n h. elim (eqb_tells n k) [ inl i ↦ subst (λ j. Unripe m j) (sym i.1) u | inr i ↦ f n i.1 h ]
+
+-- where all trees and chains stay
+pub calms_trees : (l m : Ledger) → m.policies ≡ l.policies → m.chains ≡ l.chains → ((a b : ℕ) → part_tree m a b ≡ part_tree l a b) → RipensNone l m
+calms_trees l m e c t = λ n h. calms_by l m n e (λ x y k d. subst (λ u. ends_or (held_by k u) ≡ false) (sym (t x y)) d) (ap (λ (cs : List (List Entry)). get_or cs n []) c) h

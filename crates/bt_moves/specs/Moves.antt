@@ -99,3 +99,8 @@ is_out x = not (is_free x) && not (is_given x)
 -- What was given isn't out afterwards, and every other slot stays as it was.
 abbrev pub OutStays : Ledger → Ledger → Type 0
 OutStays l m = (a : ℕ) → ((is_given (slot_at l a) ≡ true) × (is_out (slot_at m a) ≡ false)) ⊎ (slot_at m a ≡ slot_at l a)
+
+-- The transaction of slot s isn't out any more. Of the other slots, what was given isn't out, and the rest stay as they
+-- were.
+abbrev pub Delivered : ℕ → Ledger → Ledger → Type 0
+Delivered s l m = (is_out (slot_at m s) ≡ false) × ((a : ℕ) → a ≢ s → ((is_given (slot_at l a) ≡ true) × (is_out (slot_at m a) ≡ false)) ⊎ (slot_at m a ≡ slot_at l a))

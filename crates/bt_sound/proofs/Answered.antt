@@ -52,6 +52,8 @@ use Rattle.bt_ports.specs.declared.parts.Txn.{Txn}
 use Rattle.bt_ports.specs.declared.parts.Verdict.{Verdict}
 use Rattle.bt_ports.specs.declared.parts.Verdict.TheVariants.{Refused}
 use Rattle.bt_sound.specs.Answers.{is_for, calls_for, Called, Says, PastSays, IsRefusal, RefusalsFrom}
+use Rattle.bt_sound.specs.Counting.{answer_with, AnswersCounted, ReleasesSum}
+use Rattle.bt_sound.proofs.Counting.{counted_more, summed_answer}
 use Rattle.bt_sound.specs.Records.{is_of, records_of, LeafTold, Told, PutOne, PutAt}
 use Rattle.bt_sound.specs.Sound.{here, in_slots, in_past, SaysTrue, Unknown, Sound}
 use Rattle.bt_sound.specs.Transactions.{IsTransaction, IsTaken, Taken, IsPlanned, Planned, Shaped, WasTaken, untried_parts, given_open, refused_open}
@@ -93,8 +95,9 @@ sound_close gi gk ga gc gd f closed s h w g done =
       few = h.few;
       wide = h.wide;
       entries = h.entries;
-      given = h.given;
-      read = h.read;
+      course = h.course;
+      counted = h.counted;
+      summed = h.summed;
       expected = over_slot (λ y. Taken gi gc f.outside (number_in y) (moment_in y) (items_in y)) is_out f.ledger s Free w refl h.expected;
       untouched = over_trees (λ v. Untouched v) f.ledger s Free w (λ b. tt) h.untouched;
       past_answered = (done, h.past_answered);
@@ -103,7 +106,7 @@ sound_close gi gk ga gc gd f closed s h w g done =
       past_taken = (record { planned = λ _. h.planned s g; shaped = λ _. h.shaped s g; refused = λ e. (let z : false ≡ true = e in cc); without = λ e. (let z : false ≡ true = e in cc) }, h.past_taken);
       told = λ d. over_close (λ x. Told gk f.sinks d x) is_given true f.ledger s w no (h.told d);
       past_told = λ d. (h.told d s g, h.past_told d);
-      unwritten = λ d m b k j x. h.unwritten d m b k j (known_close f.ledger s closed m w x);
+      unwritten = λ d m b k j v x. h.unwritten d m b k j v (known_close f.ledger s closed m w x);
       called = λ tells. over_close (λ x. Called (ga.calls f.answerer) x) is_free false f.ledger s w no2 (h.called tells);
       past_called = λ tells. (h.called tells s taken, h.past_called tells);
       says = λ tells. each_map (λ c. SaysTrue f.ledger closed c) (λ c. SaysTrue (with_slot f.ledger s Free) (record { state = open_in (slot_at f.ledger s); memory = false } ∷ closed) c) (ga.calls f.answerer)
@@ -184,9 +187,9 @@ known_answer l s closed m bs w x = (
 pub sound_answer : {I K A C D : Type 0} (gi : Intake.Ghosts I) (gk : Sink.Ghosts K) (ga : Answerer.Ghosts A) (gc : Clock.Ghosts C) (gd : Derive.Ghosts D) (f : FloorView I K A C D) (closed : List Past) (s i : ℕ) (c : AnswerCall) (u : A) (n : Counts)
     → Sound gi gk ga gc gd f closed → IsGiven f.ledger s → IsDue (open_in (slot_at f.ledger s)) i → c.number ≡ number_in (slot_at f.ledger s) → c.item ≡ i
     → Some c.verdict ≡ verdict_of (open_in (slot_at f.ledger s)) i → c.why ≡ why_of (open_in (slot_at f.ledger s)) i
-    → (IsTrue (ga.tells u) → IsTrue (ga.tells f.answerer)) → (IsTrue (ga.tells u) → ga.calls u ≡ ga.calls f.answerer ++ c ∷ [])
+    → (IsTrue (ga.tells u) → IsTrue (ga.tells f.answerer)) → (IsTrue (ga.tells u) → ga.calls u ≡ ga.calls f.answerer ++ c ∷ []) → n ≡ answer_with c.verdict c.failed f.counts
     → Sound gi gk ga gc gd (record f { ledger = with_slot f.ledger s (Given (record (open_in (slot_at f.ledger s)) { answered = set (answered_in (slot_at f.ledger s)) i true })); answerer = u; counts = n }) closed
-sound_answer gi gk ga gc gd f closed s i c u n h w due en ei ev ey told calls =
+sound_answer gi gk ga gc gd f closed s i c u n h w due en ei ev ey told calls cn =
     let o = open_in (slot_at f.ledger s) in
     let bs = set (answered_in (slot_at f.ledger s)) i true in
     let g : is_given (slot_at f.ledger s) ≡ true = given_is (slot_at f.ledger s) w.1 in
@@ -206,8 +209,9 @@ sound_answer gi gk ga gc gd f closed s i c u n h w due en ei ev ey told calls =
       few = h.few;
       wide = h.wide;
       entries = h.entries;
-      given = h.given;
-      read = h.read;
+      course = h.course;
+      counted = λ tells. subst (λ v. AnswersCounted v n) (sym (calls tells)) (subst (λ k. AnswersCounted (ga.calls f.answerer ++ c ∷ []) k) (sym cn) (counted_more (ga.calls f.answerer) c f.counts (h.counted (told tells))));
+      summed = subst (λ k. ReleasesSum f.releases k) (sym cn) (summed_answer f.releases c.verdict c.failed f.counts h.summed);
       expected = over_slot (λ y. Taken gi gc f.outside (number_in y) (moment_in y) (items_in y)) is_out f.ledger s (Given (record (open_in (slot_at f.ledger s)) { answered = set (answered_in (slot_at f.ledger s)) i true })) w.0 refl h.expected;
       untouched = over_trees (λ v. Untouched v) f.ledger s (Given (record (open_in (slot_at f.ledger s)) { answered = set (answered_in (slot_at f.ledger s)) i true })) w.0 (λ b. h.untouched s b) h.untouched;
       past_answered = h.past_answered;
@@ -218,7 +222,7 @@ sound_answer gi gk ga gc gd f closed s i c u n h w due en ei ev ey told calls =
       past_taken = h.past_taken;
       told = λ d. over_answer (λ x. Told gk f.sinks d x) is_given true f.ledger s (set (answered_in (slot_at f.ledger s)) i true) w.0 g (λ x. x) (λ a _ e. h.told d a e) (h.told d s g);
       past_told = h.past_told;
-      unwritten = λ d m b k j x. h.unwritten d m b k j (known_answer f.ledger s closed m (set (answered_in (slot_at f.ledger s)) i true) w.0 x);
+      unwritten = λ d m b k j v x. h.unwritten d m b k j v (known_answer f.ledger s closed m (set (answered_in (slot_at f.ledger s)) i true) w.0 x);
       called = λ tells. subst (λ v. (a : ℕ) → is_free (slot_at (with_slot f.ledger s (Given (record (open_in (slot_at f.ledger s)) { answered = set (answered_in (slot_at f.ledger s)) i true }))) a) ≡ false → Called v (open_in (slot_at (with_slot f.ledger s (Given (record (open_in (slot_at f.ledger s)) { answered = set (answered_in (slot_at f.ledger s)) i true }))) a))) (sym (calls tells))
           (over_replace (λ x. Called (ga.calls f.answerer ++ c ∷ []) x) is_free false f.ledger s (set (answered_in (slot_at f.ledger s)) i true) w.0 taken
           (λ a d e. called_other (ga.calls f.answerer) c (open_in (slot_at f.ledger a)) (apart a d e) (h.called (told tells) a e))

@@ -1,8 +1,11 @@
 pub mod Answered
+pub mod Counting
+pub mod Course
 pub mod Lists
 pub mod Placing
 pub mod Popping
 pub mod Puts
+pub mod Refusing
 pub mod Slots
 pub mod Steps
 pub mod Taking

@@ -52,6 +52,9 @@ use Rattle.bt_ports.specs.declared.parts.Txn.{Txn}
 use Rattle.bt_ports.specs.declared.parts.Verdict.{Verdict}
 use Rattle.bt_ports.specs.declared.parts.Verdict.TheVariants.{Refused}
 use Rattle.bt_sound.specs.Answers.{is_for, calls_for, Called, Says, PastSays, IsRefusal, RefusalsFrom}
+use Rattle.bt_sound.specs.Counting.{count_with, AnswersCounted, ReleasesSum}
+use Rattle.bt_sound.proofs.Counting.{counted_release, summed_release}
+use Rattle.bt_ledger.specs.declared.reason.Reason.{Reason}
 use Rattle.bt_sound.specs.Records.{is_of, records_of, LeafTold, Told, PutOne, PutAt}
 use Rattle.bt_sound.specs.Sound.{here, in_slots, in_past, SaysTrue, Unknown, Sound}
 use Rattle.bt_sound.specs.Transactions.{IsTransaction, IsTaken, Taken, IsPlanned, Planned, Shaped, WasTaken, untried_parts, given_open, refused_open}
@@ -67,3 +70,35 @@ sound_pop gi gk ga gc gd f closed n (Some e) m h b r w =
     let c = front_cases (chain_at f.ledger n) f.ledger n e m r in
     subst (λ k. Sound gi gk ga gc gd (record f { ledger = k }) closed) (sym c.2)
     (sound_still gi gk ga gc gd f closed e.slot e.part (release n (part_tree f.ledger e.slot e.part)) _ h w.part (untried_release n (part_tree f.ledger e.slot e.part)) (front_open f.ledger n e b w) (λ q. release-untouched n (part_tree f.ledger e.slot e.part) q) (λ T x. by_release T n (part_tree f.ledger e.slot e.part) x))
+
+-- a release of a hold is counted
+pub sound_release : {I K A C D : Type 0} (gi : Intake.Ghosts I) (gk : Sink.Ghosts K) (ga : Answerer.Ghosts A) (gc : Clock.Ghosts C) (gd : Derive.Ghosts D) (f : FloorView I K A C D) (closed : List Past) (n : ℕ) (why : Reason) (k : Counts) (rs : List ℕ)
+    → Sound gi gk ga gc gd f closed → n < length f.releases → k ≡ count_with why f.counts → rs ≡ set f.releases n (one_more (get_or f.releases n 0))
+    → Sound gi gk ga gc gd (record f { releases = rs; counts = k }) closed
+sound_release gi gk ga gc gd f closed n why k rs h w ek er =
+    let len : length rs ≡ length f.releases = ap length er ∙ length-set f.releases n (one_more (get_or f.releases n 0)) in
+    record {
+      placed = h.placed;
+      course = h.course;
+      expected = h.expected;
+      planned = h.planned;
+      shaped = h.shaped;
+      past_taken = h.past_taken;
+      past_answered = h.past_answered;
+      untouched = h.untouched;
+      told = h.told;
+      past_told = h.past_told;
+      unwritten = h.unwritten;
+      called = h.called;
+      past_called = h.past_called;
+      says = h.says;
+      no_other = h.no_other;
+      counted = λ tells. subst (λ q. AnswersCounted (ga.calls f.answerer) q) (sym ek) (counted_release (ga.calls f.answerer) why f.counts (h.counted tells));
+      summed = subst (λ q. ReleasesSum q k) (sym er) (subst (λ q. ReleasesSum (set f.releases n (one_more (get_or f.releases n 0))) q) (sym ek) (summed_release f.releases n why f.counts w h.summed));
+      policies = h.policies;
+      sinks = h.sinks;
+      releases = len ∙ h.releases;
+      few = (let a = h.few in omega arith);
+      wide = h.wide;
+      entries = h.entries;
+    }

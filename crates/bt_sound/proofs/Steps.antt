@@ -69,7 +69,7 @@ pub sound_step : {I K A C D : Type 0} (gi : Intake.Ghosts I) (gk : Sink.Ghosts K
     → Sound gi gk ga gc gd f closed → IsPart f.ledger s p → untried t ≡ untried (part_tree f.ledger s p) → is_open (outcome (part_tree f.ledger s p)) ≡ true → (Untouched (part_tree f.ledger s p) → Untouched t) → length us ≡ length f.sinks
     → ((d : K) (a : ℕ) → is_given (slot_at (with_part f.ledger s p t) a) ≡ true → Told gk us d (open_in (slot_at (with_part f.ledger s p t) a)))
     → ((d : K) → AllByRecursion (λ q. Told gk us d q.state) closed)
-    → ((d : K) (m b k j : ℕ) → Unknown f.ledger closed m → LeafTold gk us d m b k j Fresh)
+    → ((d : K) (m b k j : ℕ) → k < length us → Unknown f.ledger closed m → LeafTold gk us d m b k j Fresh)
     → Sound gi gk ga gc gd (record f { ledger = record (with_part f.ledger s p t) { chains = cs }; sinks = us }) closed
 sound_step gi gk ga gc gd f closed s p t cs us h w u o ut n told past unwritten =
     let l = f.ledger in
@@ -84,8 +84,9 @@ sound_step gi gk ga gc gd f closed s p t cs us h w u o ut n told past unwritten 
       few = h.few;
       wide = h.wide;
       entries = h.entries;
-      given = h.given;
-      read = h.read;
+      course = h.course;
+      counted = h.counted;
+      summed = h.summed;
       expected = over_slot (λ y. Taken gi gc f.outside (number_in y) (moment_in y) (items_in y)) is_out f.ledger s (Given (stepped_open (open_in (slot_at f.ledger s)) p t)) w.0 refl h.expected;
       untouched = λ a b. elim (part_cases f.ledger s p t a b w) [
         | inl i ↦ subst (λ v. Untouched v) (sym i.1) (ut (h.untouched s p))
@@ -97,7 +98,7 @@ sound_step gi gk ga gc gd f closed s p t cs us h w u o ut n told past unwritten 
       past_taken = h.past_taken;
       told = told;
       past_told = past;
-      unwritten = λ d m b k j x. unwritten d m b k j (known_step f.ledger s p t closed m w x);
+      unwritten = λ d m b k j v x. unwritten d m b k j v (known_step f.ledger s p t closed m w x);
       called = λ tells. over_step (λ x. Called (ga.calls f.answerer) x) is_free false f.ledger s p t w taken (λ x. x) (h.called tells);
       past_called = h.past_called;
       says = λ tells. each_map (λ c. SaysTrue f.ledger closed c) (λ c. SaysTrue (record (with_part f.ledger s p t) { chains = cs }) closed c) (ga.calls f.answerer)
@@ -161,4 +162,4 @@ sound_put gi gk ga gc gd f closed s p lf k r ok us h w next put en ep el u o =
     (λ q x y b. tree_map (λ z m v. LeafTold gk f.sinks d q.state.number b z m v) (λ z m v. LeafTold gk us d q.state.number b z m v) (tree_of q.state.parts b)
     (λ z m v c. told_apart gk f.sinks us k r ok d q.state.number b z m v put (of_other q.state.number b m r (λ e i. y (sym e ∙ en))) c) (x b))
     (h.past_told d) (gone_by f.ledger.slots closed (number_in (slot_at f.ledger s)) _ s (h.placed (number_in (slot_at f.ledger s))) taken refl))
-    (λ d m b z j x. told_apart gk f.sinks us k r ok d m b z j Fresh put (of_other m b j r (λ e _. x.0 s g (sym en ∙ e))) (h.unwritten d m b z j x))
+    (λ d m b z j v x. told_apart gk f.sinks us k r ok d m b z j Fresh put (of_other m b j r (λ e _. x.0 s g (sym en ∙ e))) (h.unwritten d m b z j (let q = put.same in omega arith) x))

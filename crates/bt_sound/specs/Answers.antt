@@ -1,11 +1,14 @@
 -- The calls at the answerer, by transaction and item.
-use Rattle.std.specs.Prelude.{◌≡◌, ℕ, ◌+◌, Bool, true, false, eqb, ◌&&◌, List, [], ◌∷◌, get_or, Some}
+use Rattle.std.specs.Prelude.{◌≡◌, ℕ, ◌+◌, Bool, true, false, eqb, ◌&&◌, List, [], ◌∷◌, ◌++◌, length, get_or, IsTrue, Some}
 use Rattle.bt_demand.specs.Holding.{one_if}
 use Rattle.bt_ledger.specs.Open.{Open}
 use Rattle.bt_ledger.specs.Verdicts.{verdict_of, why_of}
+use Rattle.bt_ports.specs.declared.outside.Answerer as Answerer
 use Rattle.bt_ports.specs.declared.parts.AnswerCall.{AnswerCall}
 use Rattle.bt_ports.specs.declared.parts.Cause.TheVariants.{NoMemory}
 use Rattle.bt_ports.specs.declared.parts.Verdict.TheVariants.{Refused}
+use Rattle.bt_sound.specs.Counting.{answer_with, counts_after}
+use Rattle.bt_sound.specs.declared.counts.Counts.{Counts}
 
 -- a call is for this item of this transaction
 abbrev pub is_for : ℕ → ℕ → AnswerCall → Bool
@@ -42,3 +45,19 @@ pub record IsRefusal (n i : ℕ) (c : AnswerCall) : Type 0 where
 abbrev pub RefusalsFrom : ℕ → ℕ → List AnswerCall → Type 0
 RefusalsFrom n i [] = Unit {0}
 RefusalsFrom n i (c ∷ cs) = IsRefusal n i c × RefusalsFrom n (i + 1) cs
+
+-- So many items of a transaction were refused for want of memory, one call for each in order: `added` are these calls. The
+-- counts say so too.
+pub record RefusedAll {A : Type 0} (g : Answerer.Ghosts A) (j k : A) (c d : Counts) (n items : ℕ) (added : List AnswerCall) : Type 0 where
+  pub many : length added ≡ items
+  pub each : RefusalsFrom n 0 added
+  pub told : IsTrue (g.tells k) → IsTrue (g.tells j)
+  pub calls : IsTrue (g.tells k) → g.calls k ≡ g.calls j ++ added
+  pub counted : d ≡ counts_after added c
+
+-- one item was refused so
+pub record RefusedOne {A : Type 0} (g : Answerer.Ghosts A) (j k : A) (c d : Counts) (n i : ℕ) (call : AnswerCall) : Type 0 where
+  pub is : IsRefusal n i call
+  pub told : IsTrue (g.tells k) → IsTrue (g.tells j)
+  pub calls : IsTrue (g.tells k) → g.calls k ≡ g.calls j ++ call ∷ []
+  pub counted : d ≡ answer_with call.verdict call.failed c

@@ -1,5 +1,6 @@
 pub mod Answers
 pub mod Counting
+pub mod Course
 pub mod Records
 pub mod Sound
 pub mod Transactions

@@ -16,6 +16,8 @@ use Rattle.bt_ports.specs.declared.outside.Intake as Intake
 use Rattle.bt_ports.specs.declared.outside.Sink as Sink
 use Rattle.bt_ports.specs.declared.parts.AnswerCall.{AnswerCall}
 use Rattle.bt_sound.specs.Answers.{Called, Says, PastSays}
+use Rattle.bt_sound.specs.Counting.{AnswersCounted, ReleasesSum}
+use Rattle.bt_sound.specs.Course.{Course}
 use Rattle.bt_sound.specs.Records.{LeafTold, Told}
 use Rattle.bt_sound.specs.Transactions.{Taken, Planned, Shaped, WasTaken}
 use Rattle.bt_sound.specs.View.{FloorView, Past}
@@ -48,9 +50,8 @@ Unknown l closed n = ((s : ℕ) → is_given (slot_at l s) ≡ true → number_i
 pub record Sound {I K A C D : Type 0} (gi : Intake.Ghosts I) (gk : Sink.Ghosts K) (ga : Answerer.Ghosts A) (gc : Clock.Ghosts C) (gd : Derive.Ghosts D) (f : FloorView I K A C D) (closed : List Past) : Type 0 where
   -- the taken transactions are 1 to g: each is in one slot or closed once, and no other is
   pub placed : (n : ℕ) → in_slots n f.ledger.slots + in_past n closed ≡ one_if (ltb 0 n && leb n f.outside.taken)
-  -- the intake gave a batch for each of them, and the clock a reading
-  pub given : IsTrue (gi.tells f.outside.intake) → f.outside.taken ≤ gi.given f.outside.intake
-  pub read : IsTrue (gc.tells f.outside.clock) → (f.outside.taken ≤ gc.made f.outside.clock) ⊎ (gc.made f.outside.clock ≡ last_count)
+  -- the intake and the clock went so
+  pub course : Course gi gc f.outside
   -- a transaction that is out is one of the run
   pub expected : (s : ℕ) → is_out (slot_at f.ledger s) ≡ true → Taken gi gc f.outside (number_in (slot_at f.ledger s)) (moment_in (slot_at f.ledger s)) (items_in (slot_at f.ledger s))
   -- an open one is too, and its origins and trees are the plan's but for states and stages
@@ -64,12 +65,15 @@ pub record Sound {I K A C D : Type 0} (gi : Intake.Ghosts I) (gk : Sink.Ghosts K
   -- each leaf has the records of its state at its own sink, and no list has a record of another transaction
   pub told : (d : K) (s : ℕ) → is_given (slot_at f.ledger s) ≡ true → Told gk f.sinks d (open_in (slot_at f.ledger s))
   pub past_told : (d : K) → AllByRecursion (λ p. Told gk f.sinks d p.state) closed
-  pub unwritten : (d : K) (n p k l : ℕ) → Unknown f.ledger closed n → LeafTold gk f.sinks d n p k l Untried
+  pub unwritten : (d : K) (n p k l : ℕ) → k < length f.sinks → Unknown f.ledger closed n → LeafTold gk f.sinks d n p k l Untried
   -- each item has one call where it is answered, else none; a call says what the parts say; all calls are of these
   pub called : IsTrue (ga.tells f.answerer) → (s : ℕ) → is_free (slot_at f.ledger s) ≡ false → Called (ga.calls f.answerer) (open_in (slot_at f.ledger s))
   pub past_called : IsTrue (ga.tells f.answerer) → AllByRecursion (λ p. Called (ga.calls f.answerer) p.state) closed
   pub says : IsTrue (ga.tells f.answerer) → AllByRecursion (λ c. SaysTrue f.ledger closed c) (ga.calls f.answerer)
   pub no_other : IsTrue (ga.tells f.answerer) → AllByRecursion (λ c. (1 ≤ c.number) × (c.number ≤ f.outside.taken)) (ga.calls f.answerer)
+  -- the counts are the numbers of answers and of releases
+  pub counted : IsTrue (ga.tells f.answerer) → AnswersCounted (ga.calls f.answerer) f.counts
+  pub summed : ReleasesSum f.releases f.counts
   -- holds and sinks are the plan's, and the pool has at least as many entries as a part may have holds
   pub policies : f.ledger.policies ≡ gd.policies f.outside.plan
   pub sinks : length f.sinks ≡ gd.sinks f.outside.plan

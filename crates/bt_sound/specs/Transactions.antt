@@ -46,6 +46,10 @@ pub record IsPlanned {I C D : Type 0} (gi : Intake.Ghosts I) (gc : Clock.Ghosts 
 abbrev pub Planned : {I C D : Type 0} → Intake.Ghosts I → Clock.Ghosts C → Derive.Ghosts D → Outside I C D → Open → Type 0
 Planned gi gc gd f o = IsTrue (gi.tells f.intake) → IsTrue (gc.tells f.clock) → gc.made f.clock < last_count → (t : Txn) × IsPlanned gi gc gd f o t
 
+-- these are the parts that the plan derives for transaction n, where intake and clock tell
+abbrev pub Derived : {I C D : Type 0} → Intake.Ghosts I → Clock.Ghosts C → Derive.Ghosts D → Outside I C D → ℕ → List Part → Type 0
+Derived gi gc gd f n ps = IsTrue (gi.tells f.intake) → IsTrue (gc.tells f.clock) → gc.made f.clock < last_count → (t : Txn) → IsTransaction gi gc f t → t.number ≡ n → ps ≡ gd.parts f.plan t
+
 -- its demands were well formed, and its parts come from its items
 abbrev pub Shaped : {I C D : Type 0} → Derive.Ghosts D → Outside I C D → Open → Type 0
 Shaped gd f o = PartsFit (gd.sinks f.plan) (length (gd.policies f.plan)) (length o.answered) (untried_parts o.parts)

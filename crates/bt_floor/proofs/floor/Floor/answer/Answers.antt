@@ -9,6 +9,7 @@ use Rattle.bt_moves.specs.Moves.{Answering}
 use Rattle.bt_sound.specs.View.{FloorView}
 use Rattle.bt_moves.proofs.Moves.{answering_with}
 use Rattle.bt_sound.proofs.Answered.{sound_answer}
+use Rattle.bt_sound.specs.Counting.{answer_with}
 use Rattle.bt_floor.proofs.floor.Floor.answer.Goals as goal
 
 pub invariant_of-self : goal.invariant_of-self
@@ -16,7 +17,7 @@ invariant_of-self g c =
     let l = ap (λ (v : FloorView _ _ _ _ _). v.ledger) c.self.view_is in
     let given : IsGiven c.self.inside.ledger c.args.slot = subst (λ k. IsGiven k c.args.slot) (sym l) c.requires.given in
     let due : LeastDue (open_in (slot_at c.self.inside.ledger c.args.slot)) (Some c.args.item) = subst (λ k. LeastDue (open_in (slot_at k c.args.slot)) (Some c.args.item)) (sym l) c.requires.due in
-    rw c.answered.ensures (c.self.invariant.0, sound_answer _ _ _ _ _ _ c.self.invariant.0 c.args.slot c.args.item _ _ _ c.self.invariant.1 given due.0 c.number-number.ensures refl c.verdict_on-verdict.ensures c.why-why.ensures c.answer.ensures.told c.answer.ensures.adds)
+    rw c.answered.ensures (c.self.invariant.0, sound_answer _ _ _ _ _ _ c.self.invariant.0 c.args.slot c.args.item _ _ _ c.self.invariant.1 given due.0 c.number-number.ensures refl c.verdict_on-verdict.ensures c.why-why.ensures c.answer.ensures.told c.answer.ensures.adds (subst (λ b. c.count_answer.new.counts ≡ answer_with c.verdict_on-verdict.result b c.self.inside.counts) c.is_err-failed.ensures.value c.count_answer.ensures))
 
 pub returns-clause-answering : goal.returns-clause-answering
 returns-clause-answering g c =

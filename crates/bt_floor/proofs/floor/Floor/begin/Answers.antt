@@ -3,6 +3,7 @@ use Rattle.bt_ledger.specs.Ledger.{Ledger, slot_at, is_given, IsPart}
 use Rattle.bt_moves.specs.Resting.{Delivering}
 use Rattle.bt_moves.proofs.Keeping.{part_stays, stays_joins}
 use Rattle.bt_moves.proofs.Delivering.{delivering_settled, delivering_closed}
+use Rattle.bt_moves.proofs.Outs.{outs_joins}
 use Rattle.bt_floor.proofs.floor.Floor.begin.Goals as goal
 
 pub settle_part-requires-clause-part : goal.settle_part-requires-clause-part
@@ -16,3 +17,6 @@ returns-then-is_given-clause-stays g c = stays_joins c.args.self.now.ledger c.ma
 
 pub returns-else-is_given-clause-delivering : goal.returns-else-is_given-clause-delivering
 returns-else-is_given-clause-delivering g c = delivering_closed c.args.slot c.args.part c.make_room.new.self.ledger c.make_room.ensures.delivering (sym c.is_given.ensures ∙ c.if-is_given.false)
+
+pub returns-then-is_given-clause-outs : goal.returns-then-is_given-clause-outs
+returns-then-is_given-clause-outs g c = outs_joins c.args.self.now.ledger c.make_room.new.self.ledger c.settle_part.new.self.ledger c.make_room.ensures.outs c.settle_part.ensures.outs

@@ -8,6 +8,8 @@ use Rattle.bt_ledger.specs.declared.slot.Slot.TheVariants.{Free, Given}
 use Rattle.bt_sound.specs.Transactions.{given_open}
 use Rattle.bt_moves.proofs.Giving.{none_behind, after_give, closed_rests, given_here, given_slot}
 use Rattle.bt_sound.proofs.Taking.{fresh_at}
+use Rattle.bt_moves.specs.Moves.{OutStays}
+use Rattle.bt_moves.proofs.Outs.{outs_joins}
 use Rattle.bt_floor.proofs.floor.Floor.deliver_routes.Goals as goal
 
 pub finish_part-requires-clause-given : goal.finish_part-requires-clause-given
@@ -57,3 +59,23 @@ is_given-requires-after_bounds g c = λ κs within.
     let k = (c.finish_part.ensures.others (length (parts_in (slot_at c.give.new.self.ledger c.args.slot))) (none_behind c.give.new.self.ledger c.args.slot)).slots in
     let w = c.requires.within in
     omega arith
+
+pub returns-then-is_given-clause-slots : goal.returns-then-is_given-clause-slots
+returns-then-is_given-clause-slots g c =
+    let e = ap (λ (k : Ledger). length k.slots) c.give.ensures.ledger in
+    let d = length-set c.args.self.now.ledger.slots c.args.slot (Given (given_open (slot_at c.args.self.now.ledger c.args.slot) (parts_of c.args.routes.parts.list))) in
+    let k = (c.finish_part.ensures.others (length (parts_in (slot_at c.give.new.self.ledger c.args.slot))) (none_behind c.give.new.self.ledger c.args.slot)).slots in
+    c.deliver.ensures.slots ∙ (k ∙ (e ∙ d))
+
+pub returns-else-is_given-clause-slots : goal.returns-else-is_given-clause-slots
+returns-else-is_given-clause-slots g c =
+    let e = ap (λ (k : Ledger). length k.slots) c.give.ensures.ledger in
+    let d = length-set c.args.self.now.ledger.slots c.args.slot (Given (given_open (slot_at c.args.self.now.ledger c.args.slot) (parts_of c.args.routes.parts.list))) in
+    let k = (c.finish_part.ensures.others (length (parts_in (slot_at c.give.new.self.ledger c.args.slot))) (none_behind c.give.new.self.ledger c.args.slot)).slots in
+    k ∙ (e ∙ d)
+
+pub returns-then-is_given-clause-outs : goal.returns-then-is_given-clause-outs
+returns-then-is_given-clause-outs g c = subst (λ (q : Ledger). OutStays q c.deliver.new.self.ledger) c.give.ensures.ledger (outs_joins c.give.new.self.ledger c.finish_part.new.self.ledger c.deliver.new.self.ledger c.finish_part.ensures.outs c.deliver.ensures.outs)
+
+pub returns-else-is_given-clause-outs : goal.returns-else-is_given-clause-outs
+returns-else-is_given-clause-outs g c = subst (λ (q : Ledger). OutStays q c.finish_part.new.self.ledger) c.give.ensures.ledger c.finish_part.ensures.outs

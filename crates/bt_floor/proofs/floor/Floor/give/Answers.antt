@@ -1,10 +1,10 @@
 use Rattle.std.proofs.Common.{◌≡◌, ℕ, ◌<◌, refl, sym, ap, ◌∙◌, subst, length}
 use Rattle.bt_demand.specs.Parts.{PartsFit, parts_of}
 use Rattle.bt_ledger.specs.Calls.{IsOut, Fits}
-use Rattle.bt_ledger.specs.Ledger.{Ledger, slot_at, items_in}
+use Rattle.bt_ledger.specs.Ledger.{Ledger, slot_at, items_in, number_in}
 use Rattle.bt_sound.specs.View.{FloorView}
 use Rattle.bt_moves.specs.Moves.{RipensNone}
-use Rattle.bt_sound.specs.Transactions.{Planned, given_open}
+use Rattle.bt_sound.specs.Transactions.{Derived}
 use Rattle.bt_moves.proofs.Giving.{calms_give}
 use Rattle.bt_sound.proofs.Taking.{sound_give, fits_any}
 use Rattle.bt_demand.specs.declared.routes.HoldPolicy.{HoldPolicy}
@@ -19,7 +19,7 @@ invariant_of-self g c =
           (subst (λ (v : FloorView _ _ _ _ _). c.args.slot < length v.ledger.slots) (sym c.self.view_is) c.requires.within)
           (subst (λ (v : FloorView _ _ _ _ _). IsOut (slot_at v.ledger c.args.slot)) (sym c.self.view_is) c.requires.out)
           (subst (λ (v : FloorView _ _ _ _ _). PartsFit (g.D.Derive.sinks v.outside.plan) (length (g.D.Derive.policies v.outside.plan)) (items_in (slot_at v.ledger c.args.slot)) (parts_of c.args.routes.parts.list)) (sym c.self.view_is) c.requires.fits)
-          (subst (λ (v : FloorView _ _ _ _ _). Planned g.I.Intake g.C.Clock g.D.Derive v.outside (given_open (slot_at v.ledger c.args.slot) (parts_of c.args.routes.parts.list))) (sym c.self.view_is) c.requires.planned),
+          (subst (λ (v : FloorView _ _ _ _ _). Derived g.I.Intake g.C.Clock g.D.Derive v.outside (number_in (slot_at v.ledger c.args.slot)) (parts_of c.args.routes.parts.list)) (sym c.self.view_is) c.requires.derived),
     )
 
 pub give-requires-clause-fits : goal.give-requires-clause-fits

@@ -3,6 +3,7 @@ use Rattle.bt_ledger.specs.Ledger.{Ledger, slot_at, is_given, parts_in, IsPart}
 use Rattle.bt_moves.specs.Resting.{Delivering}
 use Rattle.bt_moves.proofs.Keeping.{part_stays, stays_joins, stays_same}
 use Rattle.bt_moves.proofs.Closing.{fewer_parts}
+use Rattle.bt_moves.proofs.Outs.{outs_same, outs_joins}
 use Rattle.bt_floor.proofs.floor.Floor.settle_parts.Goals as goal
 
 pub loop-part-init : goal.loop-part-init
@@ -10,6 +11,7 @@ loop-part-init g c = record {
   delivering = c.requires.delivering;
   slots = refl;
   stays = stays_same c.args.self.now.ledger c.args.slot;
+  outs = outs_same c.args.self.now.ledger;
   outside = refl;
 }
 
@@ -23,6 +25,7 @@ loop-part-preserved g c = record {
   delivering = c.begin_if_given.ensures.delivering;
   slots = c.begin_if_given.ensures.slots ∙ c.loop-part.invariant.slots;
   stays = stays_joins c.args.self.now.ledger c.loop-part.self.ledger c.begin_if_given.new.self.ledger c.args.slot c.loop-part.invariant.stays c.begin_if_given.ensures.stays;
+  outs = outs_joins c.args.self.now.ledger c.loop-part.self.ledger c.begin_if_given.new.self.ledger c.loop-part.invariant.outs c.begin_if_given.ensures.outs;
   outside = c.begin_if_given.ensures.outside ∙ c.loop-part.invariant.outside;
 }
 

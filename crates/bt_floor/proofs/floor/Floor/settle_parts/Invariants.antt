@@ -1,6 +1,7 @@
 use Rattle.std.proofs.Common.{◌≡◌, ℕ, ◌<◌, ◌≤◌, [], length}
 use Rattle.bt_moves.specs.Resting.{Delivering}
 use Rattle.bt_moves.specs.Moves.{SlotStays}
+use Rattle.bt_moves.specs.Moves.{OutStays}
 use Rattle.bt_floor.proofs.floor.Floor.settle_parts.Given as goal
 
 abbrev pub invariant-loop-part : goal.invariant-loop-part
@@ -8,5 +9,6 @@ invariant-loop-part g l = record {
   delivering : Delivering l.slot l.part l.self.ledger;
   slots : length l.self.ledger.slots ≡ length l.initial.self.ledger.slots;
   stays : SlotStays l.initial.self.ledger l.self.ledger l.slot;
+  outs : OutStays l.initial.self.ledger l.self.ledger;
   outside : l.self.outside ≡ l.initial.self.outside;
 }

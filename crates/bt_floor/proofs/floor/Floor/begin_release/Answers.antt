@@ -1,0 +1,14 @@
+use Rattle.std.proofs.Common.{◌≡◌, ℕ, ◌<◌, ◌≤◌, arith, refl, sym, ap, ◌∙◌, subst, length, set, get_or}
+use Rattle.bt_ledger.specs.Ledger.{Ledger}
+use Rattle.bt_sound.specs.View.{FloorView}
+use Rattle.bt_sound.proofs.Popping.{sound_release}
+use Rattle.bt_floor.proofs.floor.Floor.begin_release.Goals as goal
+
+pub invariant_of-self : goal.invariant_of-self
+invariant_of-self g c =
+    let l = ap (λ (v : FloorView _ _ _ _ _). v.ledger) c.self.view_is in
+    let s = c.self.invariant.1 in
+    let many = s.releases in
+    let e = ap (λ (k : Ledger). length k.policies) l in
+    let w : c.args.node < length c.self.inside.releases.items = (let r = c.requires in omega arith) in
+    (c.self.invariant.0, sound_release _ _ _ _ _ _ c.self.invariant.0 c.args.node c.args.why c.count_reason.new.counts _ c.self.invariant.1 w c.count_reason.ensures (c.count_release.ensures.releases ∙ ap (set c.self.inside.releases.items c.args.node) c.count_release.ensures.number))
