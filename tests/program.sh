@@ -69,7 +69,9 @@ case_of "a record that is torn" 1 "taken 3 acknowledged 1 refused 2" short_outpu
 case_of "lines are mapped" 0 "" blobl 'root = this.a.b'
 printf '7\nnull\n' | cmp -s - "$work/out" || { echo "FAILED the lines that were mapped"; failed=1; }
 case_of "a mapping with a fault" 3 "mapping: syntax at line 1 column 14" blobl 'root = a | b + c'
-case_of "a mapping that doesn't run yet" 3 "mapping: not built" blobl 'root = (this)'
+case_of "a line is dropped" 0 "" blobl 'root = if this.a == 1 { deleted() }'
+printf '{"a":{"b":7}}\n' | cmp -s - "$work/out" || { echo "FAILED the line that isn't dropped"; failed=1; }
+case_of "a statement that fails" 1 'line 2: failed assignment (line 1): +: wrong type null' blobl 'root = this.a.b + 1'
 case_of "a full standard output of blobl" 5 "out: write fault" full_blobl
 case_of "a closed standard output of blobl" 5 "out: write fault" closed_blobl
 case_of "a directory as standard input of blobl" 4 "source: read fault" directory_blobl

@@ -1,5 +1,6 @@
 pub mod Loop
 pub mod MappingFaults
+pub mod Readiness
 pub mod Tales
 pub mod Turns
 pub mod Whole

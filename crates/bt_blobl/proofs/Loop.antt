@@ -3,18 +3,17 @@ use Rattle.std.proofs.Common.{◌≡◌, ℕ, ◌+◌, suc, List, [], ◌∷◌,
 use Rattle.bt_ports.specs.World.{Tale, StillTells}
 use Rattle.bt_ports.specs.declared.outside.Source as Source
 use Rattle.bt_commands.specs.View.{InputView}
-use Rattle.bt_tree.specs.declared.tree.Mapping.{Mapping}
 use Rattle.bt_blobl.specs.Inside.{Going, GivenLines, NextLines, LinesHalted, Passed, SameLines, LineMapped, all_lines}
-use Rattle.bt_blobl.specs.Meaning.{outcome, printed_of, error_of, fails, blobl_text, blobl_errors, errors_from, some_fail}
+use Rattle.bt_blobl.specs.Meaning.{Task, outcome, printed_of, error_of, fails, blobl_text, blobl_errors, errors_from, some_fail}
 use Rattle.bt_blobl.specs.declared.course.PassStop.{PassStop}
 use Rattle.bt_blobl.specs.declared.course.PassStop.TheVariants as stops
 
 -- one line more
-text-more : (m : Mapping) (done : List (List ℕ)) (line : List ℕ) → blobl_text m (done ++ line ∷ []) ≡ blobl_text m done ++ printed_of (outcome m line)
+text-more : (m : Task) (done : List (List ℕ)) (line : List ℕ) → blobl_text m (done ++ line ∷ []) ≡ blobl_text m done ++ printed_of (outcome m line)
 text-more m [] line = append-nil (printed_of (outcome m line))
 text-more m (l ∷ done) line = ap (λ (t : List ℕ). printed_of (outcome m l) ++ t) (text-more m done line) ∙ sym (append_assoc (printed_of (outcome m l)) (blobl_text m done) (printed_of (outcome m line)))
 
-errors-more : (n : ℕ) (m : Mapping) (done : List (List ℕ)) (line : List ℕ) → errors_from n m (done ++ line ∷ []) ≡ errors_from n m done ++ error_of (length done + n) (outcome m line)
+errors-more : (n : ℕ) (m : Task) (done : List (List ℕ)) (line : List ℕ) → errors_from n m (done ++ line ∷ []) ≡ errors_from n m done ++ error_of (length done + n) (outcome m line)
 errors-more n m [] line = let none : n ≡ 0 + n = omega arith in append-nil (error_of n (outcome m line)) ∙ ap (λ (k : ℕ). error_of k (outcome m line)) none
 errors-more n m (l ∷ done) line =
     let next : length done + suc n ≡ suc (length done) + n = omega arith in
@@ -29,7 +28,7 @@ or-false : (a : Bool) → (a || false) ≡ a
 or-false true = refl
 or-false false = refl
 
-some-more : (m : Mapping) (done : List (List ℕ)) (line : List ℕ) → some_fail m (done ++ line ∷ []) ≡ (some_fail m done || fails (outcome m line))
+some-more : (m : Task) (done : List (List ℕ)) (line : List ℕ) → some_fail m (done ++ line ∷ []) ≡ (some_fail m done || fails (outcome m line))
 some-more m [] line = or-false (fails (outcome m line))
 some-more m (l ∷ done) line = ap (λ (b : Bool). fails (outcome m l) || b) (some-more m done line) ∙ or-assoc (fails (outcome m l)) (some_fail m done) (fails (outcome m line))
 
@@ -55,7 +54,7 @@ gave-all stops.Bound done line before given all is gave = gave ∙ is
 gave-all stops.PrintFailed done line before given all is gave = ap (λ (n : ℕ). slice_get all n) (sym is) ∙ gave
 gave-all stops.NoMemory done line before given all is gave = tt
 
-module _ {S E I : Type 0} (gs : Source.Ghosts S) (m : Mapping) where
+module _ {S E I : Type 0} (gs : Source.Ghosts S) (m : Task) where
   -- no line was taken
   pub going-begins : (i : InputView S) (tells prints says : Bool) (a : Tale E I) → i.given ≡ 0 → Going gs m 0 false i tells prints says a a
   going-begins i tells prints says a none = record {

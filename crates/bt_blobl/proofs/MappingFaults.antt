@@ -13,7 +13,7 @@ use Rattle.bt_syntax.specs.Places.{Refuses, place_of}
 use Rattle.bt_syntax.specs.declared.fault.SyntaxFault.{SyntaxFault}
 use Rattle.bt_syntax.specs.declared.fault.SyntaxFault.TheVariants as parser
 use Rattle.bt_blobl.specs.Inside.{IsUnread, IsWithin, LintsSay, MappingSays, PatternsSay, RefusalSays, TokensSay, lexer_halt, parser_halt}
-use Rattle.bt_blobl.specs.Text.{HasNoLints, IsOtherForm, IsTextOf}
+use Rattle.bt_blobl.specs.Text.{HasNoLints, IsTextOf}
 use Rattle.bt_blobl.specs.declared.course.Halt.{Halt}
 use Rattle.bt_blobl.specs.declared.course.Halt.TheVariants as halt
 
@@ -54,7 +54,6 @@ pub says-mapping : (text : List ℕ) (m : Mapping) (h : Halt) → IsTextOf m tex
 says-mapping text m (halt.Faulty fault at) reads says = absurd says
 says-mapping text m (halt.Lints lints) reads says = (m, reads, says)
 says-mapping text m (halt.Pattern at) reads says = (m, reads, says.0, says.1)
-says-mapping text m halt.NotBuilt reads says = (m, reads, says.0, says.1)
 says-mapping text m halt.NoSource reads says = absurd says
 says-mapping text m halt.NoMemory reads says = tt
 
@@ -63,7 +62,6 @@ pub says-lints : (m : Mapping) (h : Halt) → LintsSay m h → MappingSays m h
 says-lints m (halt.Faulty fault at) says = absurd says
 says-lints m (halt.Lints lints) says = says
 says-lints m (halt.Pattern at) says = absurd says
-says-lints m halt.NotBuilt says = absurd says
 says-lints m halt.NoSource says = absurd says
 says-lints m halt.NoMemory says = tt
 
@@ -71,16 +69,15 @@ pub says-patterns : (m : Mapping) (h : Halt) → HasNoLints m → PatternsSay m 
 says-patterns m (halt.Faulty fault at) none says = absurd says
 says-patterns m (halt.Lints lints) none says = absurd says
 says-patterns m (halt.Pattern at) none says = (none, says)
-says-patterns m halt.NotBuilt none says = (none, says)
 says-patterns m halt.NoSource none says = absurd says
 says-patterns m halt.NoMemory none says = tt
 
 -- a text without tokens
-pub says-lexed : (text : List ℕ) (f : LexFault) → ((s : List ℕ) (ts : List Token) (g : LexFault) → HasTokens s ts → HasFault s g → ⊥) → (f ≢ lexer.NoMemory → HasFault text f) → RefusalSays (lexer_halt f) text
-says-lexed text (lexer.Char at) never fault = let is = fault (λ e. cc) in (is, λ m reads. never _ _ _ reads.tokens is)
-says-lexed text (lexer.Text at) never fault = let is = fault (λ e. cc) in (is, λ m reads. never _ _ _ reads.tokens is)
-says-lexed text (lexer.Number at) never fault = let is = fault (λ e. cc) in (is, λ m reads. never _ _ _ reads.tokens is)
-says-lexed text lexer.NoMemory never fault = tt
+pub says-lexed : (text : List ℕ) (f : LexFault) → (f ≢ lexer.NoMemory → HasFault text f) → RefusalSays (lexer_halt f) text
+says-lexed text (lexer.Char at) fault = fault (λ e. cc)
+says-lexed text (lexer.Text at) fault = fault (λ e. cc)
+says-lexed text (lexer.Number at) fault = fault (λ e. cc)
+says-lexed text lexer.NoMemory fault = tt
 
 pub lexed-within : (text : List ℕ) (f : LexFault) → IsFaultWithin text 0 f → IsWithin (lexer_halt f) text
 lexed-within text (lexer.Char at) inside = omega (arith, inside.1)
@@ -94,28 +91,25 @@ lexed-unread (lexer.Text at) = tt
 lexed-unread (lexer.Number at) = tt
 lexed-unread lexer.NoMemory = tt
 
--- a text of another form
+-- a text whose tokens are refused
 module _ (text : List ℕ) where
-  pub says-other : (h : Halt) → TokensSay h text → IsOtherForm text → RefusalSays h text
-  says-other (halt.Faulty fault at) says other = (says.0, other)
-  says-other (halt.Lints lints) says other = (says, other)
-  says-other (halt.Pattern at) says other = (says, other)
-  says-other halt.NotBuilt says other = (says, other)
-  says-other halt.NoSource says other = absurd says
-  says-other halt.NoMemory says other = tt
+  pub says-tokens : (h : Halt) → TokensSay h text → RefusalSays h text
+  says-tokens (halt.Faulty fault at) says = says.0
+  says-tokens (halt.Lints lints) says = says
+  says-tokens (halt.Pattern at) says = says
+  says-tokens halt.NoSource says = absurd says
+  says-tokens halt.NoMemory says = tt
 
-  pub other-within : (h : Halt) → TokensSay h text → IsWithin h text
-  other-within (halt.Faulty fault at) says = says.1
-  other-within (halt.Lints lints) says = tt
-  other-within (halt.Pattern at) says = tt
-  other-within halt.NotBuilt says = tt
-  other-within halt.NoSource says = absurd says
-  other-within halt.NoMemory says = tt
+  pub tokens-within_text : (h : Halt) → TokensSay h text → IsWithin h text
+  tokens-within_text (halt.Faulty fault at) says = says.1
+  tokens-within_text (halt.Lints lints) says = tt
+  tokens-within_text (halt.Pattern at) says = tt
+  tokens-within_text halt.NoSource says = absurd says
+  tokens-within_text halt.NoMemory says = tt
 
-  pub other-unread : (h : Halt) → TokensSay h text → IsUnread h
-  other-unread (halt.Faulty fault at) says = tt
-  other-unread (halt.Lints lints) says = tt
-  other-unread (halt.Pattern at) says = tt
-  other-unread halt.NotBuilt says = tt
-  other-unread halt.NoSource says = absurd says
-  other-unread halt.NoMemory says = tt
+  pub tokens-unread : (h : Halt) → TokensSay h text → IsUnread h
+  tokens-unread (halt.Faulty fault at) says = tt
+  tokens-unread (halt.Lints lints) says = tt
+  tokens-unread (halt.Pattern at) says = tt
+  tokens-unread halt.NoSource says = absurd says
+  tokens-unread halt.NoMemory says = tt

@@ -8,9 +8,8 @@ use Rattle.bt_ports.specs.declared.parts.Item.{Item}
 use Rattle.bt_commands.specs.Input.{batches}
 use Rattle.bt_intake.specs.Sources.{all_tell, told}
 use Rattle.bt_commands.specs.View.{InputView}
-use Rattle.bt_tree.specs.declared.tree.Mapping.{Mapping}
 use Rattle.bt_blobl.specs.Inside.{LineShown, TurnResult, SameLines, IsBreak, AnswerIs, NextLines, all_lines}
-use Rattle.bt_blobl.specs.Meaning.{line_bytes, outcome}
+use Rattle.bt_blobl.specs.Meaning.{Task, line_bytes, outcome}
 use Rattle.bt_blobl.specs.declared.course.PassStop.{PassStop}
 use Rattle.bt_blobl.specs.declared.course.PassStop.TheVariants as stops
 
@@ -37,7 +36,7 @@ module _ {S : Type 0} (gs : Source.Ghosts S) (i j : InputView S)
   same-lines : SameLines gs i j
   same-lines t = (telling t, ap (map line_bytes) (same t))
 
-  module _ {E I : Type 0} (m : Mapping) (n : ℕ) (tells prints says : Bool) where
+  module _ {E I : Type 0} (m : Task) (n : ℕ) (tells prints says : Bool) where
     -- memory was wanting before a line was taken
     pub turns-starved : (a : Tale E I) → TurnResult gs m n (Err stops.NoMemory) i j tells prints says a a
     turns-starved a = (

@@ -12,12 +12,13 @@ use Rattle.bt_commands.specs.Input.{batches}
 use Rattle.bt_lines.specs.Lines.{SourceBytes}
 use Rattle.bt_intake.specs.Sources.{all_tell, told, taken_count, fault_count, SourceKept, SourcesKept}
 use Rattle.bt_commands.specs.View.{InputView}
-use Rattle.bt_syntax.specs.Built.{BuiltReading}
 use Rattle.bt_tree.specs.declared.tree.Mapping.{Mapping}
 use Rattle.bt_commands.specs.declared.limits.TheConstants.{INPUT_BOUND}
 use Rattle.bt_blobl.specs.Inside.{AnswerIs, GivenLines, Passed, PrintsOnly, all_lines, IsFreshInput, IsUnread, OpensInput, OpensNone, PassFaults}
-use Rattle.bt_blobl.specs.Meaning.{blobl_text, blobl_errors, lines_of, line_bytes}
+use Rattle.bt_blobl.specs.Meaning.{blobl_text, blobl_errors, lines_of, line_bytes, task_of}
 use Rattle.bt_blobl.specs.Promise.{BloblCounts, BloblTells, IsHaltPart, MapsBy, MapsLines, MapsNone, StopFaults, StopSays}
+use Rattle.bt_blobl.specs.Text.{RunsAs}
+use Rattle.bt_blobl.specs.declared.course.Flags.{Flags}
 use Rattle.bt_blobl.proofs.Loop.{joined}
 use Rattle.bt_commands.specs.Input.{input_of, transactions}
 use Rattle.bt_commands.specs.Calls.{source_opening}
@@ -76,11 +77,11 @@ stop-says : (s : Option Next) (bound bound' taken taken' given : ℕ) (tells tel
     → bound ≡ bound' → taken ≡ taken' → tells ≡ tells' → ss ≡ ss' → AnswerSays s bound taken given tells ss → AnswerSays s bound' taken' given tells' ss'
 stop-says s bound bound' taken taken' given tells tells' ss ss' p q r u says = rw (sym p, sym q, sym r, sym u) says
 
-module _ {S E : Type 0} (gs : Source.Ghosts S) (text : List ℕ) where
+module _ {S E : Type 0} (gs : Source.Ghosts S) (text : List ℕ) (flags : Flags) where
   -- the standard input was opened, its lines mapped, and it was kept
-  module _ (m : Mapping) (reads : BuiltReading text m) (pass : Pass) (i j : InputView S) (tells prints says prints' says' : Bool) (a b c d : Tale E (Contents (Named S))) (sources : Contents (Named S))
+  module _ (m : Mapping) (reads : RunsAs text m) (pass : Pass) (i j : InputView S) (tells prints says prints' says' : Bool) (a b c d : Tale E (Contents (Named S))) (sources : Contents (Named S))
       (printing : IsTrue prints' → IsTrue prints) (saying : IsTrue says' → IsTrue says) (fresh : IsFreshInput gs i) (opens : OpensInput gs i a b) (kept : SourcesKept gs i.sources.list j.sources.list) (bound : j.bound ≡ i.bound) (stands : Standing gs j)
-      (rose : PassFaults pass.stop (fault_count gs i.sources.list) (fault_count gs j.sources.list)) (passed : Passed gs m pass j tells prints says b c) (only : PrintsOnly b c)
+      (rose : PassFaults pass.stop (fault_count gs i.sources.list) (fault_count gs j.sources.list)) (passed : Passed gs (task_of m flags) pass j tells prints says b c) (only : PrintsOnly b c)
       (given_back : sources ≡ j.sources) (keeps : d ≡ record c { input_keeps = once_more c.input_keeps; kept_input = Some sources }) (t : IsTrue tells) where
     whole : d ≡ record a { calls = a.calls ++ source_opening ∷ []; stdin = b.stdin; printed = c.printed; lines = c.lines; input_keeps = once_more a.input_keeps; kept_input = Some j.sources }
     whole =
@@ -122,7 +123,7 @@ module _ {S E : Type 0} (gs : Source.Ghosts S) (text : List ℕ) where
         stop-holds pass.stop j.stopped passed.done passed.line j.given (gs.taken source) (gs.bytes source) passed.answer says_so
         (subst (λ (ls : List (List ℕ)). GivenLines pass.stop passed.done passed.line j.given ls) same_lines (passed.gave (telling ∙ told_all))) (first told_all)
 
-    maps : MapsLines gs text pass [] prints' says' a d
+    maps : MapsLines gs text flags pass [] prints' says' a d
     maps =
         let T : Type 0 = Tale E (Contents (Named S)) in
         record {
@@ -138,10 +139,10 @@ module _ {S E : Type 0} (gs : Source.Ghosts S) (text : List ℕ) where
           one = one.1;
           place = one.2.placed ∙ opens.place;
           input = λ told_all. one.2.same told_all ∙ opens.input (one.2.told told_all);
-          printed = λ p. ap (λ (w : T). w.printed) whole ∙ passed.whole.printed t (printing p) ∙ ap (λ (w : T). w.printed ++ (blobl_text m passed.done ++ passed.prefix)) opens.opens;
+          printed = λ p. ap (λ (w : T). w.printed) whole ∙ passed.whole.printed t (printing p) ∙ ap (λ (w : T). w.printed ++ (blobl_text (task_of m flags) passed.done ++ passed.prefix)) opens.opens;
           said = λ p.
-              ap (λ (w : T). w.lines) whole ∙ passed.whole.said t (saying p) ∙ ap (λ (w : T). w.lines ++ blobl_errors m passed.done) opens.opens
-              ∙ ap (λ (ls : List (List ℕ)). a.lines ++ ls) (sym (append-nil (blobl_errors m passed.done)));
+              ap (λ (w : T). w.lines) whole ∙ passed.whole.said t (saying p) ∙ ap (λ (w : T). w.lines ++ blobl_errors (task_of m flags) passed.done) opens.opens
+              ∙ ap (λ (ls : List (List ℕ)). a.lines ++ ls) (sym (append-nil (blobl_errors (task_of m flags) passed.done)));
           prefix_is = passed.prefix_is;
           failed = passed.whole.failed;
           first = first;
@@ -149,7 +150,7 @@ module _ {S E : Type 0} (gs : Source.Ghosts S) (text : List ℕ) where
           ends = ends;
         }
 
-    pub went-mapped : BloblTells gs text (Ok pass) [] prints' says' a d
+    pub went-mapped : BloblTells gs text flags (Ok pass) [] prints' says' a d
     went-mapped =
         let T : Type 0 = Tale E (Contents (Named S)) in
         record {
@@ -161,7 +162,7 @@ module _ {S E : Type 0} (gs : Source.Ghosts S) (text : List ℕ) where
         }
 
   -- no line could be read
-  pub went-none : (h : Halt) (prints says : Bool) (a b : Tale E (Contents (Named S))) → OpensNone h a b → BloblTells gs text (Err h) [] prints says a b
+  pub went-none : (h : Halt) (prints says : Bool) (a b : Tale E (Contents (Named S))) → OpensNone h a b → BloblTells gs text flags (Err h) [] prints says a b
   went-none h prints says a b opened =
       let T : Type 0 = Tale E (Contents (Named S)) in
       record {
@@ -179,7 +180,7 @@ module _ {S E : Type 0} (gs : Source.Ghosts S) (text : List ℕ) where
       }
 
   -- the text is no mapping that runs
-  pub went-unread : (h : Halt) (prints says : Bool) (a : Tale E (Contents (Named S))) → IsUnread h → BloblTells gs text (Err h) [] prints says a a
+  pub went-unread : (h : Halt) (prints says : Bool) (a : Tale E (Contents (Named S))) → IsUnread h → BloblTells gs text flags (Err h) [] prints says a a
   went-unread h prints says a none = record {
     part = [];
     calls = sym (append-nil a.calls);
@@ -192,7 +193,6 @@ module _ {S E : Type 0} (gs : Source.Ghosts S) (text : List ℕ) where
       unread-part (halt.Faulty fault at) none = refl
       unread-part (halt.Lints lints) none = refl
       unread-part (halt.Pattern at) none = refl
-      unread-part halt.NotBuilt none = refl
       unread-part halt.NoSource none = absurd none
       unread-part halt.NoMemory none = (0, refl)
 
@@ -207,7 +207,7 @@ module _ {S E : Type 0} (gs : Source.Ghosts S) (text : List ℕ) where
       kept_input = ap (λ (w : Tale E (Contents (Named S))). w.kept_input) same ∙ nothing.kept_input;
     }
 
-    lines-said : (pass : Pass) → MapsLines gs text pass [] prints says a b → MapsLines gs text pass last prints' says' a c
+    lines-said : (pass : Pass) → MapsLines gs text flags pass [] prints says a b → MapsLines gs text flags pass last prints' says' a c
     lines-said pass mapped = record {
       mapping = mapped.mapping;
       reads = mapped.reads;
@@ -222,7 +222,7 @@ module _ {S E : Type 0} (gs : Source.Ghosts S) (text : List ℕ) where
       place = mapped.place;
       input = mapped.input;
       printed = λ p. ap (λ (w : Tale E (Contents (Named S))). w.printed) same ∙ mapped.printed (printing p);
-      said = λ p. joined a.lines b.lines c.lines (blobl_errors mapped.mapping mapped.done) last (mapped.said (saying p)) (added p);
+      said = λ p. joined a.lines b.lines c.lines (blobl_errors (task_of mapped.mapping flags) mapped.done) last (mapped.said (saying p)) (added p);
       prefix_is = mapped.prefix_is;
       failed = mapped.failed;
       first = mapped.first;
@@ -230,11 +230,11 @@ module _ {S E : Type 0} (gs : Source.Ghosts S) (text : List ℕ) where
       ends = mapped.ends;
     }
 
-    maps-said : (r : Result Pass Halt) → MapsBy gs text r [] prints says a b → MapsBy gs text r last prints' says' a c
+    maps-said : (r : Result Pass Halt) → MapsBy gs text flags r [] prints says a b → MapsBy gs text flags r last prints' says' a c
     maps-said (Ok pass) m = lines-said pass m
     maps-said (Err h) m = none-said m
 
-    pub went-said : (r : Result Pass Halt) → BloblTells gs text r [] prints says a b → BloblTells gs text r last prints' says' a c
+    pub went-said : (r : Result Pass Halt) → BloblTells gs text flags r [] prints says a b → BloblTells gs text flags r last prints' says' a c
     went-said r went =
         let T : Type 0 = Tale E (Contents (Named S)) in
         let whole : c ≡ record a { calls = b.calls; lines = c.lines; stdin = b.stdin; printed = b.printed; input_keeps = b.input_keeps; kept_input = b.kept_input } =

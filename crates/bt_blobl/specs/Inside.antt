@@ -25,8 +25,8 @@ use Rattle.bt_ports.specs.Faults.{Rose}
 use Rattle.bt_ports.specs.declared.parts.Asked.{Asked}
 use Rattle.bt_commands.specs.declared.limits.TheConstants.{INPUT_BOUND}
 use Rattle.bt_commands.specs.Calls.{source_opening, failed}
-use Rattle.bt_blobl.specs.Meaning.{line_bytes, outcome, printed_of, error_of, fails, blobl_text, blobl_errors, some_fail}
-use Rattle.bt_blobl.specs.Text.{HasBadPattern, HasLints, HasMappingFault, HasNoLints, IsLintedText, IsMappingText, IsOtherForm}
+use Rattle.bt_blobl.specs.Meaning.{Task, line_bytes, outcome, printed_of, error_of, fails, blobl_text, blobl_errors, some_fail}
+use Rattle.bt_blobl.specs.Text.{HasBadPattern, HasLints, HasMappingFault, HasNoLints, IsLintedText, RunsAs}
 use Rattle.bt_blobl.specs.Promise.{PrefixIs, IsHaltPart}
 
 -- a fault stands inside the text, or at its end
@@ -34,7 +34,6 @@ abbrev pub IsWithin : Halt → List ℕ → Type 0
 IsWithin (halt.Faulty fault at) text = at ≤ length text
 IsWithin (halt.Lints lints) text = Unit {0}
 IsWithin (halt.Pattern at) text = Unit {0}
-IsWithin halt.NotBuilt text = Unit {0}
 IsWithin halt.NoSource text = Unit {0}
 IsWithin halt.NoMemory text = Unit {0}
 
@@ -56,7 +55,6 @@ abbrev pub TokensSay : Halt → List ℕ → Type 0
 TokensSay (halt.Faulty fault at) text = HasMappingFault fault at text × (at ≤ length text)
 TokensSay (halt.Lints lints) text = IsLintedText lints.list text
 TokensSay (halt.Pattern at) text = HasBadPattern at text
-TokensSay halt.NotBuilt text = IsMappingText text
 TokensSay halt.NoSource text = ⊥
 TokensSay halt.NoMemory text = Unit {0}
 
@@ -65,7 +63,6 @@ abbrev pub PatternsSay : Mapping → Halt → Type 0
 PatternsSay m (halt.Faulty fault at) = ⊥
 PatternsSay m (halt.Lints lints) = ⊥
 PatternsSay m (halt.Pattern at) = FirstBad at (patterns m)
-PatternsSay m halt.NotBuilt = AllRead (patterns m)
 PatternsSay m halt.NoSource = ⊥
 PatternsSay m halt.NoMemory = Unit {0}
 
@@ -74,25 +71,22 @@ abbrev pub LintsSay : Mapping → Halt → Type 0
 LintsSay m (halt.Faulty fault at) = ⊥
 LintsSay m (halt.Lints lints) = HasLints m lints.list
 LintsSay m (halt.Pattern at) = ⊥
-LintsSay m halt.NotBuilt = ⊥
 LintsSay m halt.NoSource = ⊥
 LintsSay m halt.NoMemory = Unit {0}
 
--- what a mapping of another form says
+-- what a mapping says of a refusal of it
 abbrev pub MappingSays : Mapping → Halt → Type 0
 MappingSays m (halt.Faulty fault at) = ⊥
 MappingSays m (halt.Lints lints) = HasLints m lints.list
 MappingSays m (halt.Pattern at) = HasNoLints m × FirstBad at (patterns m)
-MappingSays m halt.NotBuilt = HasNoLints m × AllRead (patterns m)
 MappingSays m halt.NoSource = ⊥
 MappingSays m halt.NoMemory = Unit {0}
 
 -- what the text says of a refusal of it
 abbrev pub RefusalSays : Halt → List ℕ → Type 0
-RefusalSays (halt.Faulty fault at) text = HasMappingFault fault at text × IsOtherForm text
-RefusalSays (halt.Lints lints) text = IsLintedText lints.list text × IsOtherForm text
-RefusalSays (halt.Pattern at) text = HasBadPattern at text × IsOtherForm text
-RefusalSays halt.NotBuilt text = IsMappingText text × IsOtherForm text
+RefusalSays (halt.Faulty fault at) text = HasMappingFault fault at text
+RefusalSays (halt.Lints lints) text = IsLintedText lints.list text
+RefusalSays (halt.Pattern at) text = HasBadPattern at text
 RefusalSays halt.NoSource text = ⊥
 RefusalSays halt.NoMemory text = Unit {0}
 
@@ -105,16 +99,16 @@ abbrev pub PrintsOnly : {E I : Type 0} → Tale E I → Tale E I → Type 0
 PrintsOnly a b = b ≡ record a { printed = b.printed; lines = b.lines }
 
 -- these lines were mapped: what was printed and said of them, with `prefix` behind it, whether one failed, and that they are the first of all
-pub record Done {S E I : Type 0} (gs : Source.Ghosts S) (m : Mapping) (done : List (List ℕ)) (prefix : List ℕ) (fault : Bool) (i : InputView S) (tells prints says : Bool) (a b : Tale E I) : Type 0 where
-  pub printed : IsTrue tells → IsTrue prints → b.printed ≡ a.printed ++ (blobl_text m done ++ prefix)
-  pub said : IsTrue tells → IsTrue says → b.lines ≡ a.lines ++ blobl_errors m done
-  pub failed : fault ≡ some_fail m done
+pub record Done {S E I : Type 0} (gs : Source.Ghosts S) (t : Task) (done : List (List ℕ)) (prefix : List ℕ) (fault : Bool) (i : InputView S) (tells prints says : Bool) (a b : Tale E I) : Type 0 where
+  pub printed : IsTrue tells → IsTrue prints → b.printed ≡ a.printed ++ (blobl_text t done ++ prefix)
+  pub said : IsTrue tells → IsTrue says → b.lines ≡ a.lines ++ blobl_errors t done
+  pub failed : fault ≡ some_fail t done
   pub first : IsTrue (all_tell gs i.sources.list) → done ≡ take (length done) (all_lines gs i)
 
 -- the lines that were mapped, n of them, and the intake gave no other
-pub record Going {S E I : Type 0} (gs : Source.Ghosts S) (m : Mapping) (n : ℕ) (failed : Bool) (i : InputView S) (tells prints says : Bool) (a b : Tale E I) : Type 0 where
+pub record Going {S E I : Type 0} (gs : Source.Ghosts S) (t : Task) (n : ℕ) (failed : Bool) (i : InputView S) (tells prints says : Bool) (a b : Tale E I) : Type 0 where
   pub done : List (List ℕ)
-  pub whole : Done gs m done [] failed i tells prints says a b
+  pub whole : Done gs t done [] failed i tells prints says a b
   pub count : length done ≡ n
   pub given : IsTrue (all_tell gs i.sources.list) → i.given ≡ n
 
@@ -150,12 +144,12 @@ AnswerIs stops.PrintFailed stopped = Unit {0}
 AnswerIs stops.NoMemory stopped = Unit {0}
 
 -- no more lines are mapped
-pub record Passed {S E I : Type 0} (gs : Source.Ghosts S) (m : Mapping) (pass : Pass) (i : InputView S) (tells prints says : Bool) (a b : Tale E I) : Type 0 where
+pub record Passed {S E I : Type 0} (gs : Source.Ghosts S) (t : Task) (pass : Pass) (i : InputView S) (tells prints says : Bool) (a b : Tale E I) : Type 0 where
   pub done : List (List ℕ)
   pub line : List ℕ
   pub prefix : List ℕ
-  pub whole : Done gs m done prefix pass.failed i tells prints says a b
-  pub prefix_is : PrefixIs pass.stop (outcome m line) prefix
+  pub whole : Done gs t done prefix pass.failed i tells prints says a b
+  pub prefix_is : PrefixIs pass.stop (outcome t line) prefix
   pub gave : IsTrue (all_tell gs i.sources.list) → GivenLines pass.stop done line i.given (all_lines gs i)
   pub answer : AnswerIs pass.stop i.stopped
 
@@ -186,30 +180,29 @@ LineShown (Ok failed) n o tells prints says a b = (failed ≡ fails o) × LineTo
 LineShown (Err stop) n o tells prints says a b = IsBreak stop × LineCut stop o tells prints says a b
 
 -- The n-th line was taken, and its outcome told: the lines before it are as many as the intake had given
-pub record LineMapped {S E I : Type 0} (gs : Source.Ghosts S) (m : Mapping) (n : ℕ) (fault : Bool) (i j : InputView S) (tells prints says : Bool) (a b : Tale E I) : Type 0 where
+pub record LineMapped {S E I : Type 0} (gs : Source.Ghosts S) (t : Task) (n : ℕ) (fault : Bool) (i j : InputView S) (tells prints says : Bool) (a b : Tale E I) : Type 0 where
   pub line : List ℕ
-  pub fault_is : fault ≡ fails (outcome m line)
-  pub tells_it : LineTold n (outcome m line) tells prints says a b
+  pub fault_is : fault ≡ fails (outcome t line)
+  pub tells_it : LineTold n (outcome t line) tells prints says a b
   pub given : IsTrue (all_tell gs j.sources.list) → (j.given ≡ i.given + 1) × (slice_get (all_lines gs j) i.given ≡ Some line)
 
 -- No line more was told: the intake gave none, or memory was wanting, or its outcome wasn't printed whole
-pub record LinesHalted {S E I : Type 0} (gs : Source.Ghosts S) (m : Mapping) (stop : PassStop) (i j : InputView S) (tells prints says : Bool) (a b : Tale E I) : Type 0 where
+pub record LinesHalted {S E I : Type 0} (gs : Source.Ghosts S) (t : Task) (stop : PassStop) (i j : InputView S) (tells prints says : Bool) (a b : Tale E I) : Type 0 where
   pub line : List ℕ
-  pub breaks : LineCut stop (outcome m line) tells prints says a b
+  pub breaks : LineCut stop (outcome t line) tells prints says a b
   pub answer : AnswerIs stop j.stopped
   pub gave : IsTrue (all_tell gs j.sources.list) → NextLines stop line i.given j.given (all_lines gs j)
 
 -- how a turn of the lines went
-abbrev pub TurnResult : {S E I : Type 0} → Source.Ghosts S → Mapping → ℕ → Result Bool PassStop → InputView S → InputView S → (tells prints says : Bool) → Tale E I → Tale E I → Type 0
-TurnResult gs m n (Ok fault) i j tells prints says a b = LineMapped gs m n fault i j tells prints says a b × SameLines gs i j
-TurnResult gs m n (Err stop) i j tells prints says a b = LinesHalted gs m stop i j tells prints says a b × SameLines gs i j
+abbrev pub TurnResult : {S E I : Type 0} → Source.Ghosts S → Task → ℕ → Result Bool PassStop → InputView S → InputView S → (tells prints says : Bool) → Tale E I → Tale E I → Type 0
+TurnResult gs t n (Ok fault) i j tells prints says a b = LineMapped gs t n fault i j tells prints says a b × SameLines gs i j
+TurnResult gs t n (Err stop) i j tells prints says a b = LinesHalted gs t stop i j tells prints says a b × SameLines gs i j
 
 -- no line can be read: the opening failed, or memory was wanting
 abbrev pub IsNoOpening : Halt → Type 0
 IsNoOpening (halt.Faulty fault at) = ⊥
 IsNoOpening (halt.Lints lints) = ⊥
 IsNoOpening (halt.Pattern at) = ⊥
-IsNoOpening halt.NotBuilt = ⊥
 IsNoOpening halt.NoSource = Unit {0}
 IsNoOpening halt.NoMemory = Unit {0}
 
@@ -257,6 +250,5 @@ abbrev pub IsUnread : Halt → Type 0
 IsUnread (halt.Faulty fault at) = Unit {0}
 IsUnread (halt.Lints lints) = Unit {0}
 IsUnread (halt.Pattern at) = Unit {0}
-IsUnread halt.NotBuilt = Unit {0}
 IsUnread halt.NoSource = ⊥
 IsUnread halt.NoMemory = Unit {0}

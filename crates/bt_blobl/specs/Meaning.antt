@@ -1,14 +1,19 @@
 -- What `blobl` prints and says of the lines of its input.
-use Rattle.std.specs.Prelude.{ℕ, suc, List, [], ◌∷◌, ◌++◌, map, Bool, true, false, ◌||◌, Option, Some, None, codes, decimal}
+use Rattle.std.specs.Prelude.{ℕ, suc, List, [], ◌∷◌, ◌++◌, map, Bool, true, false, ◌||◌, Option, Some, None, Result, Ok, Err, codes, decimal, if◌then◌else◌}
 use Rattle.bt_ports.specs.declared.parts.Item.{Item}
 use Rattle.bt_tree.specs.declared.tree.Mapping.{Mapping}
-use Rattle.bt_eval.specs.Mapped.{mapped}
-use Rattle.bt_eval.specs.Meaning.{this_fault}
-use Rattle.bt_eval.specs.declared.run.Mapped.{Mapped}
-use Rattle.bt_eval.specs.declared.run.Mapped.TheVariants as mapping
+use Rattle.bt_meaning.specs.Mapped.{mapped}
+use Rattle.bt_meaning.specs.Contents.{document, this_fault}
+use Rattle.bt_meaning.specs.declared.content.ContentFault.{ContentFault}
+use Rattle.bt_meaning.specs.declared.message.Mapped.{Mapped}
+use Rattle.bt_meaning.specs.declared.message.Mapped.TheVariants as mapping
 use Rattle.bt_value.specs.declared.message.Msg.{Msg}
-use Rattle.bt_eval.specs.declared.run.Spot.{Spot}
+use Rattle.bt_value.specs.Reading.{pretty_text}
+use Rattle.bt_value.specs.declared.val.Val.{Val, out-Val}
+use Rattle.bt_value.specs.declared.val.Val.TheOpen.{Val-F}
+use Rattle.bt_meaning.specs.declared.message.Spot.{Spot}
 use Rattle.bt_commands.specs.Input.{transactions}
+use Rattle.bt_blobl.specs.declared.course.Flags.{Flags}
 use Rattle.bt_blobl.specs.declared.course.LineResult.{LineResult}
 use Rattle.bt_blobl.specs.declared.course.LineResult.TheVariants as outcomes
 
@@ -29,20 +34,48 @@ message line = record { content = line; meta = []; flag = None }
 abbrev pub alone : Spot
 alone = record { index = 0; size = 1; moment = 0 }
 
+-- what is done with each line: a mapping is run on it, by these flags
+pub record Task : Type 0 where
+  pub mapping : Mapping
+  pub flags : Flags
+
+abbrev pub task_of : Mapping → Flags → Task
+task_of m flags = record { mapping = m; flags = flags }
+
+-- a document of this content, laid out over several lines where it is a list or an object
+abbrev laid_by : Val-F Val → Val → List ℕ → List ℕ
+laid_by (Val-F.Arr xs) x content = pretty_text x
+laid_by (Val-F.Obj ms) x content = pretty_text x
+laid_by _ x content = content
+
+unfoldable pub laid_value : Val → List ℕ → List ℕ
+laid_value x content = laid_by (out-Val x) x content
+
+abbrev pub laid : Result Val ContentFault → List ℕ → List ℕ
+laid (Ok x) content = laid_value x content
+laid (Err fault) content = content
+
+-- a result as it is printed: as it is, or, with the flag `pretty`, laid out where it is a document
+abbrev pub result_text : Bool → List ℕ → List ℕ
+result_text pretty content = if pretty then laid (document content) content else content
+
 -- what a mapping makes of a message, by what is printed of it: its content and a line break
-abbrev pub shown : Mapped → LineResult
-shown (mapping.Changed m) = outcomes.Prints (m.content ++ 10 ∷ [])
-shown mapping.Dropped = outcomes.Drops
-shown (mapping.Flagged text) = outcomes.Fails text
+abbrev pub shown : Bool → Mapped → LineResult
+shown pretty (mapping.Changed m) = outcomes.Prints (result_text pretty m.content ++ 10 ∷ [])
+shown pretty mapping.Dropped = outcomes.Drops
+shown pretty (mapping.Flagged text) = outcomes.Fails text
 
--- a line that gives no value fails with the text that `this` has then, whatever the mapping is
-abbrev pub outcome_by : Option (List ℕ) → Mapping → List ℕ → LineResult
-outcome_by (Some text) m line = outcomes.Fails text
-outcome_by None m line = shown (mapped m (message line) None alone)
+abbrev pub mapped_line : Task → List ℕ → LineResult
+mapped_line t line = shown t.flags.pretty (mapped t.mapping (message line) None alone)
 
--- what becomes of a line
-abbrev pub outcome : Mapping → List ℕ → LineResult
-outcome m line = outcome_by (this_fault line) m line
+-- a line that is no document fails with the text that `this` has then, whatever the mapping is
+abbrev pub outcome_by : Option (List ℕ) → Task → List ℕ → LineResult
+outcome_by (Some text) t line = outcomes.Fails text
+outcome_by None t line = mapped_line t line
+
+-- what becomes of a line; with the flag `raw` it need be no document
+abbrev pub outcome : Task → List ℕ → LineResult
+outcome t line = if t.flags.raw then mapped_line t line else outcome_by (this_fault line) t line
 
 -- what is printed of it
 abbrev pub printed_of : LineResult → List ℕ
@@ -62,20 +95,20 @@ fails outcomes.Drops = false
 fails (outcomes.Fails text) = true
 
 -- what is printed of the lines, one behind the other
-abbrev pub blobl_text : Mapping → List (List ℕ) → List ℕ
-blobl_text m [] = []
-blobl_text m (line ∷ lines) = printed_of (outcome m line) ++ blobl_text m lines
+abbrev pub blobl_text : Task → List (List ℕ) → List ℕ
+blobl_text t [] = []
+blobl_text t (line ∷ lines) = printed_of (outcome t line) ++ blobl_text t lines
 
 -- the lines of `err` of lines that are numbered from n on
-abbrev pub errors_from : ℕ → Mapping → List (List ℕ) → List (List ℕ)
-errors_from n m [] = []
-errors_from n m (line ∷ lines) = error_of n (outcome m line) ++ errors_from (suc n) m lines
+abbrev pub errors_from : ℕ → Task → List (List ℕ) → List (List ℕ)
+errors_from n t [] = []
+errors_from n t (line ∷ lines) = error_of n (outcome t line) ++ errors_from (suc n) t lines
 
 -- the failed lines with their texts. Lines are numbered from 1
-abbrev pub blobl_errors : Mapping → List (List ℕ) → List (List ℕ)
-blobl_errors m lines = errors_from 1 m lines
+abbrev pub blobl_errors : Task → List (List ℕ) → List (List ℕ)
+blobl_errors t lines = errors_from 1 t lines
 
 -- whether the mapping of one of the lines failed
-abbrev pub some_fail : Mapping → List (List ℕ) → Bool
-some_fail m [] = false
-some_fail m (line ∷ lines) = fails (outcome m line) || some_fail m lines
+abbrev pub some_fail : Task → List (List ℕ) → Bool
+some_fail t [] = false
+some_fail t (line ∷ lines) = fails (outcome t line) || some_fail t lines

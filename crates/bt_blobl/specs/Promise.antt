@@ -13,7 +13,6 @@ use Rattle.bt_ports.specs.Faults.{Rose}
 use Rattle.bt_ports.specs.declared.parts.Asked.{Asked}
 use Rattle.bt_ports.specs.declared.parts.Named.{Named}
 use Rattle.bt_ports.specs.Intake.{input_end, bound_met, line_too_long}
-use Rattle.bt_syntax.specs.Built.{BuiltReading}
 use Rattle.bt_lexer.specs.Places.{line_of, column_of}
 use Rattle.bt_commands.specs.declared.limits.TheConstants.{INPUT_BOUND}
 use Rattle.bt_commands.specs.Input.{input_of}
@@ -24,8 +23,9 @@ use Rattle.bt_blobl.specs.declared.course.Halt.{Halt}
 use Rattle.bt_blobl.specs.declared.course.Halt.TheVariants as halt
 use Rattle.bt_commands.specs.declared.status.Status.{Status}
 use Rattle.bt_commands.specs.declared.status.Status.TheVariants as status
-use Rattle.bt_blobl.specs.Meaning.{lines_of, outcome, printed_of, blobl_text, blobl_errors, some_fail}
-use Rattle.bt_blobl.specs.Text.{TextSays, fault_line, line_at, lint_line}
+use Rattle.bt_blobl.specs.Meaning.{lines_of, outcome, printed_of, blobl_text, blobl_errors, some_fail, task_of}
+use Rattle.bt_blobl.specs.Text.{RunsAs, TextSays, fault_line, line_at, lint_line}
+use Rattle.bt_blobl.specs.declared.course.Flags.{Flags}
 
 -- what is left of an outcome that wasn't printed whole: a prefix of it, where the print failed
 abbrev pub PrefixIs : PassStop → LineResult → List ℕ → Type 0
@@ -50,7 +50,6 @@ abbrev pub halt_status : Halt → Status
 halt_status (halt.Faulty fault at) = status.Config
 halt_status (halt.Lints lints) = status.Config
 halt_status (halt.Pattern at) = status.Config
-halt_status halt.NotBuilt = status.Config
 halt_status halt.NoSource = status.Input
 halt_status halt.NoMemory = status.Memory
 
@@ -73,7 +72,6 @@ abbrev pub halt_lines : Halt → List ℕ → List (List ℕ)
 halt_lines (halt.Faulty fault at) text = fault_line fault (line_of text at) (column_of text at) ∷ []
 halt_lines (halt.Lints lints) text = map (lint_line text) lints.list
 halt_lines (halt.Pattern at) text = line_at (codes "pattern") text at ∷ []
-halt_lines halt.NotBuilt text = codes "mapping: not built" ∷ []
 halt_lines halt.NoSource text = codes "source stdin: cannot open" ∷ []
 halt_lines halt.NoMemory text = no_memory_line ∷ []
 
@@ -88,7 +86,6 @@ abbrev pub IsHaltPart : Halt → List Asked → Type 0
 IsHaltPart (halt.Faulty fault at) part = part ≡ []
 IsHaltPart (halt.Lints lints) part = part ≡ []
 IsHaltPart (halt.Pattern at) part = part ≡ []
-IsHaltPart halt.NotBuilt part = part ≡ []
 IsHaltPart halt.NoSource part = part ≡ failed source_opening ∷ []
 IsHaltPart halt.NoMemory part = (n : ℕ) × (part ≡ take n (source_opening ∷ []))
 
@@ -102,7 +99,6 @@ abbrev pub HaltCounts : Halt → ℕ → ℕ → Type 0
 HaltCounts (halt.Faulty fault at) opens opens' = Unit {0}
 HaltCounts (halt.Lints lints) opens opens' = Unit {0}
 HaltCounts (halt.Pattern at) opens opens' = Unit {0}
-HaltCounts halt.NotBuilt opens opens' = Unit {0}
 HaltCounts halt.NoSource opens opens' = Rose opens opens'
 HaltCounts halt.NoMemory opens opens' = Unit {0}
 
@@ -143,9 +139,9 @@ pub record MapsNone {E I : Type 0} (last : List (List ℕ)) (says : Bool) (a b :
 -- lines were mapped: what `keep_input` was given, once, which is the one source by the place of its opening; its bytes are those of the standard input.
 -- The lines `done` are the first of its lines. What they give was printed, with a prefix of the outcome of the next line where its print failed, and the
 -- failed ones were said with their numbers and texts, and behind them the last lines
-pub record MapsLines {S E : Type 0} (gs : Source.Ghosts S) (text : List ℕ) (pass : Pass) (last : List (List ℕ)) (prints says : Bool) (a b : Tale E (Contents (Named S))) : Type 0 where
+pub record MapsLines {S E : Type 0} (gs : Source.Ghosts S) (text : List ℕ) (flags : Flags) (pass : Pass) (last : List (List ℕ)) (prints says : Bool) (a b : Tale E (Contents (Named S))) : Type 0 where
   pub mapping : Mapping
-  pub reads : BuiltReading text mapping
+  pub reads : RunsAs text mapping
   pub sources : Contents (Named S)
   pub source : S
   pub done : List (List ℕ)
@@ -156,32 +152,32 @@ pub record MapsLines {S E : Type 0} (gs : Source.Ghosts S) (text : List ℕ) (pa
   pub one : sources.list ≡ record { path = None; source = source } ∷ []
   pub place : gs.place source ≡ length a.calls + 1
   pub input : IsTrue (gs.tells source) → gs.bytes source ≡ a.stdin
-  pub printed : IsTrue prints → b.printed ≡ a.printed ++ (blobl_text mapping done ++ prefix)
-  pub said : IsTrue says → b.lines ≡ a.lines ++ (blobl_errors mapping done ++ last)
-  pub prefix_is : PrefixIs pass.stop (outcome mapping line) prefix
+  pub printed : IsTrue prints → b.printed ≡ a.printed ++ (blobl_text (task_of mapping flags) done ++ prefix)
+  pub said : IsTrue says → b.lines ≡ a.lines ++ (blobl_errors (task_of mapping flags) done ++ last)
+  pub prefix_is : PrefixIs pass.stop (outcome (task_of mapping flags) line) prefix
   -- whether one of the lines failed
-  pub failed : pass.failed ≡ some_fail mapping done
+  pub failed : pass.failed ≡ some_fail (task_of mapping flags) done
   pub first : IsTrue (gs.tells source) → done ≡ take (length done) (lines_of (gs.bytes source))
   pub faults : StopFaults pass.stop (gs.faults source)
   pub ends : IsTrue (gs.tells source) → StopSays pass.stop done line (gs.taken source) (gs.bytes source)
 
-abbrev pub MapsBy : {S E : Type 0} → Source.Ghosts S → List ℕ → Result Pass Halt → List (List ℕ) → (prints says : Bool) → Tale E (Contents (Named S)) → Tale E (Contents (Named S)) → Type 0
-MapsBy gs text (Ok pass) last prints says a b = MapsLines gs text pass last prints says a b
-MapsBy gs text (Err halt) last prints says a b = MapsNone last says a b
+abbrev pub MapsBy : {S E : Type 0} → Source.Ghosts S → List ℕ → Flags → Result Pass Halt → List (List ℕ) → (prints says : Bool) → Tale E (Contents (Named S)) → Tale E (Contents (Named S)) → Type 0
+MapsBy gs text flags (Ok pass) last prints says a b = MapsLines gs text flags pass last prints says a b
+MapsBy gs text flags (Err halt) last prints says a b = MapsNone last says a b
 
--- what the world tells after a `blobl` of this text, from a to b, with these lines of `err` at its end
-pub record BloblTells {S E : Type 0} (gs : Source.Ghosts S) (text : List ℕ) (pass : Result Pass Halt) (last : List (List ℕ)) (prints says : Bool) (a b : Tale E (Contents (Named S))) : Type 0 where
+-- what the world tells after a `blobl` of this text by these flags, from a to b, with these lines of `err` at its end
+pub record BloblTells {S E : Type 0} (gs : Source.Ghosts S) (text : List ℕ) (flags : Flags) (pass : Result Pass Halt) (last : List (List ℕ)) (prints says : Bool) (a b : Tale E (Contents (Named S))) : Type 0 where
   -- the command's part of the list of calls
   pub part : List Asked
   pub calls : b.calls ≡ a.calls ++ part
   pub openings : IsBloblPart pass part
   -- the lines that were mapped, or none
-  pub maps : MapsBy gs text pass last prints says a b
+  pub maps : MapsBy gs text flags pass last prints says a b
   -- of all else only what is left of the standard input changed
   pub only : b ≡ record a { calls = b.calls; lines = b.lines; stdin = b.stdin; printed = b.printed; input_keeps = b.input_keeps; kept_input = b.kept_input }
 
--- `blobl` with this text as its mapping, from a to b
-pub record BloblPromise {W S K A C : Type 0} (o : Outside W S K A C) (text : List ℕ) (result : Status) (a b : W) : Type 0 where
+-- `blobl` with this text as its mapping, by these flags, from a to b
+pub record BloblPromise {W S K A C : Type 0} (o : Outside W S K A C) (text : List ℕ) (flags : Flags) (result : Status) (a b : W) : Type 0 where
   -- the lines that it mapped, or what kept it from that
   pub pass : Result Pass Halt
   pub status : result ≡ blobl_status pass
@@ -190,4 +186,4 @@ pub record BloblPromise {W S K A C : Type 0} (o : Outside W S K A C) (text : Lis
   -- a fault was counted where one is named, and none of a file
   pub counts : BloblCounts pass (o.world.open_faults a) (o.world.open_faults b) (o.world.print_faults a) (o.world.print_faults b)
   pub files : o.world.file_faults b ≡ o.world.file_faults a
-  pub tells : IsTrue (o.world.tells b) → BloblTells o.source text pass (blobl_lines pass text) (o.world.tells_printed b) (o.world.tells_lines b) (o.world.tale a) (o.world.tale b)
+  pub tells : IsTrue (o.world.tells b) → BloblTells o.source text flags pass (blobl_lines pass text) (o.world.tells_printed b) (o.world.tells_lines b) (o.world.tale a) (o.world.tale b)

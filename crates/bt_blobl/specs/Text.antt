@@ -12,7 +12,6 @@ use Rattle.bt_literals.specs.Literals.{AllRead, FirstBad, patterns}
 use Rattle.bt_lexer.specs.declared.token.LexFault.TheVariants as lexer
 use Rattle.bt_lexer.specs.declared.token.Token.{Token}
 use Rattle.bt_syntax.specs.Brackets.{deep_at}
-use Rattle.bt_syntax.specs.Built.{BuiltReading}
 use Rattle.bt_syntax.specs.Grammar.{ReadsMapping}
 use Rattle.bt_syntax.specs.Lexemes.{lexemes}
 use Rattle.bt_syntax.specs.Places.{Refuses}
@@ -51,9 +50,11 @@ pub record HasLints (m : Mapping) (lints : List MapLint) : Type 0 where
   pub all : (x : MapLint) → Contains lints x ↔ IsLint m usage.Mapping x
   pub in_order : IsStrictlySortedBy by_place lints
 
--- the text is a mapping without lints, each of whose literal patterns is read
-abbrev pub IsMappingText : List ℕ → Type 0
-IsMappingText text = (m : Mapping) × IsTextOf m text × HasNoLints m × AllRead (patterns m)
+-- the text is this mapping, which runs: it has no lint, and each of its literal patterns is read
+pub record RunsAs (text : List ℕ) (m : Mapping) : Type 0 where
+  pub reads : IsTextOf m text
+  pub no_lints : HasNoLints m
+  pub patterns_read : AllRead (patterns m)
 
 -- the text is a mapping with these lints
 abbrev pub IsLintedText : List MapLint → List ℕ → Type 0
@@ -63,20 +64,15 @@ IsLintedText lints text = (m : Mapping) × IsTextOf m text × HasLints m lints
 abbrev pub HasBadPattern : ℕ → List ℕ → Type 0
 HasBadPattern at text = (m : Mapping) × IsTextOf m text × HasNoLints m × FirstBad at (patterns m)
 
--- it isn't of the form that runs
-abbrev pub IsOtherForm : List ℕ → Type 0
-IsOtherForm text = (m : Mapping) → BuiltReading text m → ⊥
-
--- the text is of the form that runs
+-- the text is a mapping that runs
 abbrev pub IsRunningText : List ℕ → Type 0
-IsRunningText text = (m : Mapping) × BuiltReading text m
+IsRunningText text = (m : Mapping) × RunsAs text m
 
 -- what the text says where no line was mapped
 abbrev pub HaltSays : Halt → List ℕ → Type 0
-HaltSays (halt.Faulty fault at) text = HasMappingFault fault at text × IsOtherForm text
-HaltSays (halt.Lints lints) text = IsLintedText lints.list text × IsOtherForm text
-HaltSays (halt.Pattern at) text = HasBadPattern at text × IsOtherForm text
-HaltSays halt.NotBuilt text = IsMappingText text × IsOtherForm text
+HaltSays (halt.Faulty fault at) text = HasMappingFault fault at text
+HaltSays (halt.Lints lints) text = IsLintedText lints.list text
+HaltSays (halt.Pattern at) text = HasBadPattern at text
 HaltSays halt.NoSource text = IsRunningText text
 HaltSays halt.NoMemory text = Unit {0}
 

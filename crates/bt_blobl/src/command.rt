@@ -1,33 +1,32 @@
 //! The command `blobl`.
-ghost use Rattle.std.specs.Prelude.{◌≡◌, ℕ, ◌+◌, ◌≤◌, List, [], ◌∷◌, ◌++◌, length, None, IfOk, IfErr, IfSome, MatchOption, OnOk, IsTrue, map, true, false};
+ghost use Rattle.std.specs.Prelude.{◌≡◌, ℕ, ◌+◌, ◌≤◌, List, [], ◌∷◌, ◌++◌, length, None, IfOk, IfErr, IfSome, MatchOption, OnOk, IsTrue, map};
 ghost use Rattle.bt_commands.specs.Inputs.{Standing};
-ghost use Rattle.bt_syntax.specs.Built.{BuiltReading, IsBuilt};
 ghost use Rattle.bt_tree.specs.declared.tree.Mapping.{Mapping};
 ghost use Rattle.bt_blobl.specs.Inside.{IsFreshInput, IsNoOpening, IsUnread, OpensInput, OpensNone, IsWithin, LintsSay, MappingSays, PatternsSay, RefusalSays, TokensSay, lexer_halt, parser_halt};
 ghost use Rattle.bt_blobl.specs.Promise.{BloblCounts, BloblPromise, BloblTells, HaltCounts, blobl_lines, blobl_status, halt_lines, halt_status, pass_status, stop_lines};
-ghost use Rattle.bt_blobl.specs.Text.{HasNoLints, TextSays, lint_line};
+ghost use Rattle.bt_blobl.specs.Text.{HasNoLints, RunsAs, TextSays, lint_line};
+ghost use Rattle.bt_literals.specs.Literals.{AllRead, patterns};
 ghost use Rattle.bt_lexer.specs.Lines.{HasTokens};
 ghost use Rattle.bt_commands.specs.Calls.{source_opening};
 ghost use Rattle.bt_commands.specs.Outside.{SaysOnly, StillTold, over};
 
-use crate::course::{Halt, MappingFault, Pass, PassStop};
+use crate::course::{Flags, Halt, MappingFault, Pass, PassStop};
 use crate::faults::{fault_line, line_at};
 use crate::lines::map_lines;
 use bt_commands::input::LineInput;
 use bt_commands::limits::INPUT_BOUND;
 use bt_commands::lines::{bound_line, long_line};
 use bt_commands::status::Status;
-use bt_lexer::{LexFault, Tokens, lex, one_reading, place, spans_rise};
+use bt_lexer::{LexFault, Tokens, lex, place, spans_rise};
 use bt_lints::{MapLint, Use, lint_mapping};
 use bt_literals::{PatternFault, ready};
-use bt_patterns::Patterns;
 use bt_ports::NoMemory;
 use bt_ports::outside::{Answerer, Clock, Sink, Source};
 use bt_ports::parts::{Named, Opened};
 use bt_ports::sequence::Sequence;
 use bt_ports::world::World;
 use bt_ready::Ready;
-use bt_syntax::{SyntaxFault, parse, read_built};
+use bt_syntax::{SyntaxFault, parse};
 use bt_tree::Mapping;
 use std::alloc::Global;
 
@@ -69,26 +68,16 @@ fn parser_halt(fault: SyntaxFault) -> Halt
     }
 }
 
-// Why a text of which these are the tokens doesn't run: the grammar refuses it, or it is of another form.
-fn refusal(alloc: Global, text: &str, tokens: &Tokens) -> Halt
-    requires { HasTokens text.now tokens.now.list }
-    ensures { TokensSay result text.now }
-{
-    spans_rise();
-    match parse(alloc, text, tokens) {
-        Ok(mapping) => other_form(alloc, mapping),
-        Err(fault) => parser_halt(fault),
-    }
-}
-
-// Why a mapping without lints doesn't run: a pattern isn't read, or it is of another form.
-fn pattern_halt(alloc: Global, mapping: Mapping) -> Halt
-    ensures { PatternsSay mapping result }
+// The mapping with its patterns, or the first that isn't read.
+fn with_patterns(alloc: Global, mapping: Mapping) -> Result<Ready, Halt>
+    ensures kept { IfOk result (λ r. r.mapping ≡ mapping) }
+    ensures read { IfOk result (λ r. AllRead (patterns mapping)) }
+    ensures says { IfErr result (PatternsSay mapping) }
 {
     match ready(alloc, mapping) {
-        Ok(_) => Halt::NotBuilt,
-        Err((PatternFault::Bad { at }, _)) => Halt::Pattern { at },
-        Err((PatternFault::NoMemory, _)) => Halt::NoMemory,
+        Ok(ready) => Ok(ready),
+        Err((PatternFault::Bad { at }, _)) => Err(Halt::Pattern { at }),
+        Err((PatternFault::NoMemory, _)) => Err(Halt::NoMemory),
     }
 }
 
@@ -103,33 +92,42 @@ fn lint_halt(alloc: Global, mapping: &Mapping) -> Option<Halt>
     }
 }
 
-// Why a mapping that isn't of the form that runs doesn't.
-fn other_form(alloc: Global, mapping: Mapping) -> Halt
-    ensures { MappingSays mapping result }
+// The mapping made ready, or what is wrong with it.
+fn made_ready(alloc: Global, mapping: Mapping) -> Result<Ready, Halt>
+    ensures kept { IfOk result (λ r. r.mapping ≡ mapping) }
+    ensures no_lints { IfOk result (λ r. HasNoLints mapping) }
+    ensures read { IfOk result (λ r. AllRead (patterns mapping)) }
+    ensures says { IfErr result (MappingSays mapping) }
 {
     match lint_halt(alloc, &mapping) {
-        Some(halt) => halt,
-        None => pattern_halt(alloc, mapping),
+        Some(halt) => Err(halt),
+        None => with_patterns(alloc, mapping),
+    }
+}
+
+// The mapping of which these are the text's tokens, or why there is none that runs.
+fn read_tokens(alloc: Global, text: &str, tokens: &Tokens) -> Result<Ready, Halt>
+    requires { HasTokens text.now tokens.now.list }
+    ensures runs { IfOk result (λ r. RunsAs text.now r.mapping) }
+    ensures says { IfErr result (λ halt. TokensSay halt text.now) }
+{
+    spans_rise();
+    match parse(alloc, text, tokens) {
+        Ok(mapping) => made_ready(alloc, mapping),
+        Err(fault) => Err(parser_halt(fault)),
     }
 }
 
 // The mapping of the text, or why there is none that runs.
-fn read_mapping(alloc: Global, text: &str) -> Result<Mapping, Halt>
-    ensures read { IfOk result (λ m. BuiltReading text.now m) }
-    ensures built { IfOk result (λ m. IsBuilt m) }
+fn read_mapping(alloc: Global, text: &str) -> Result<Ready, Halt>
+    ensures runs { IfOk result (λ r. RunsAs text.now r.mapping) }
     ensures unread { IfErr result IsUnread }
     ensures says { IfErr result (λ halt. RefusalSays halt text.now) }
     ensures within { IfErr result (λ halt. IsWithin halt text.now) }
 {
-    one_reading();
-    let tokens = match lex(alloc, text) {
-        Ok(tokens) => tokens,
-        Err(fault) => return Err(lexer_halt(fault)),
-    };
-    match read_built(alloc, text, &tokens) {
-        Ok(Some(mapping)) => Ok(mapping),
-        Ok(None) => Err(refusal(alloc, text, &tokens)),
-        Err(NoMemory) => Err(Halt::NoMemory),
+    match lex(alloc, text) {
+        Ok(tokens) => read_tokens(alloc, text, &tokens),
+        Err(fault) => Err(lexer_halt(fault)),
     }
 }
 
@@ -182,41 +180,38 @@ fn open_lines<W: World>(alloc: Global, world: &mut W) -> Result<LineInput<W::S>,
 }
 
 // Maps the lines of the standard input.
-fn map_stdin<W: World>(alloc: Global, ready: &Ready, world: &mut W) -> Result<Pass, Halt>
-    requires { IsBuilt ready.now.mapping }
+fn map_stdin<W: World>(
+    alloc: Global,
+    ready: &Ready,
+    flags: Flags,
+    world: &mut W,
+) -> Result<Pass, Halt>
     ensures told { StillTold ⟦<W as World>⟧ world.old world.new }
     ensures halt { IfErr result IsNoOpening }
     ensures files { W.file_faults world.new ≡ W.file_faults world.old }
     ensures count { BloblCounts result (W.open_faults world.old) (W.open_faults world.new) (W.print_faults world.old) (W.print_faults world.new) }
-    ensures went { IsTrue (W.tells world.new) → (text : List ℕ) → BuiltReading text ready.now.mapping → BloblTells ⟦<W::S as Source>⟧ text result [] (W.tells_printed world.new) (W.tells_lines world.new) (W.tale world.old) (W.tale world.new) }
+    ensures went { IsTrue (W.tells world.new) → (text : List ℕ) → RunsAs text ready.now.mapping → BloblTells ⟦<W::S as Source>⟧ text flags result [] (W.tells_printed world.new) (W.tells_lines world.new) (W.tale world.old) (W.tale world.new) }
 {
     let mut intake = match open_lines(alloc, world) {
         Ok(intake) => intake,
         Err(halt) => return Err(halt),
     };
-    let pass = map_lines(alloc, ready, &mut intake, world);
+    let pass = map_lines(alloc, ready, flags, &mut intake, world);
     world.keep_input(intake.into_sources());
     Ok(pass)
 }
 
 // Maps the lines of the standard input by the mapping of the text, or says what kept it from that.
-fn map_by<W: World>(alloc: Global, text: &str, world: &mut W) -> Result<Pass, Halt>
+fn map_by<W: World>(alloc: Global, text: &str, flags: Flags, world: &mut W) -> Result<Pass, Halt>
     ensures told { StillTold ⟦<W as World>⟧ world.old world.new }
     ensures says { TextSays result text.now }
     ensures within { IfErr result (λ halt. IsWithin halt text.now) }
     ensures files { W.file_faults world.new ≡ W.file_faults world.old }
     ensures count { BloblCounts result (W.open_faults world.old) (W.open_faults world.new) (W.print_faults world.old) (W.print_faults world.new) }
-    ensures went { IsTrue (W.tells world.new) → BloblTells ⟦<W::S as Source>⟧ text.now result [] (W.tells_printed world.new) (W.tells_lines world.new) (W.tale world.old) (W.tale world.new) }
+    ensures went { IsTrue (W.tells world.new) → BloblTells ⟦<W::S as Source>⟧ text.now flags result [] (W.tells_printed world.new) (W.tells_lines world.new) (W.tale world.old) (W.tale world.new) }
 {
     match read_mapping(alloc, text) {
-        Ok(mapping) => map_stdin(
-            alloc,
-            &Ready {
-                mapping,
-                patterns: Patterns::new(alloc),
-            },
-            world,
-        ),
+        Ok(ready) => map_stdin(alloc, &ready, flags, world),
         Err(halt) => Err(halt),
     }
 }
@@ -262,7 +257,6 @@ fn say_halt<W: World>(halt: &Halt, text: &str, world: &mut W)
         }
         Halt::Lints(lints) => say_lints(lints.as_slice(), text, world),
         Halt::Pattern { at } => world.err(line_at("pattern", text, *at).as_str().as_bytes()),
-        Halt::NotBuilt => world.err(b"mapping: not built"),
         Halt::NoSource => world.err(b"source stdin: cannot open"),
         Halt::NoMemory => world.err(b"no memory"),
     }
@@ -298,9 +292,7 @@ fn halt_status(halt: &Halt) -> Status
     ensures { result ≡ halt_status halt.now }
 {
     match halt {
-        Halt::Faulty { .. } | Halt::Lints(_) | Halt::Pattern { .. } | Halt::NotBuilt => {
-            Status::Config
-        }
+        Halt::Faulty { .. } | Halt::Lints(_) | Halt::Pattern { .. } => Status::Config,
         Halt::NoSource => Status::Input,
         Halt::NoMemory => Status::Memory,
     }
@@ -318,12 +310,12 @@ fn blobl_status(pass: &Result<Pass, Halt>) -> Status
 
 /// Maps each line of the standard input by `mapping`, and prints what it gives, with a line break.
 ///
-/// The mapping is read first, and its first fault is said with its line and column; only one that runs opens the source.
-/// A line is a message of its own, without metadata,
-/// in a batch of one at moment 0. One that is no JSON text of a value fails, whatever the mapping is. The mapping's
-/// failure of a line is said with the line's number, and the lines go on; a failed print ends the command. The source
-/// is handed to `keep_input` where it was read. So far a mapping is `root =` and a path of names from `this` or a
-/// literal, and both flags must be off. Not promised: what a real stream holds, and how long a read waits.
+/// The mapping is read first. Its first fault, or all its lints, or its first pattern that isn't read, is said with its
+/// line and column; only a mapping that runs opens the source. A line is a message of its own, without metadata, in a
+/// batch of one at moment 0. One that is no JSON text of a value fails, whatever the mapping is, unless lines are taken
+/// `raw`. The mapping's failure of a line is said with the line's number, and the lines go on; a failed print ends the
+/// command. With `pretty` a result that is a list or an object as JSON is laid out over several lines. The source is
+/// handed to `keep_input` where it was read. Not promised: what a real stream holds, and how long a read waits.
 pub fn blobl_command<W: World>(
     alloc: Global,
     mapping: &str,
@@ -331,10 +323,9 @@ pub fn blobl_command<W: World>(
     pretty: bool,
     world: &mut W,
 ) -> Status
-    requires flags { (raw ≡ false) × (pretty ≡ false) }
-    ensures { BloblPromise (over ⟦<W as World>⟧ ⟦<W::S as Source>⟧ ⟦<W::K as Sink>⟧ ⟦<W::A as Answerer>⟧ ⟦<W::C as Clock>⟧) mapping.now result world.old world.new }
+    ensures { BloblPromise (over ⟦<W as World>⟧ ⟦<W::S as Source>⟧ ⟦<W::K as Sink>⟧ ⟦<W::A as Answerer>⟧ ⟦<W::C as Clock>⟧) mapping.now (record { raw = raw; pretty = pretty }) result world.old world.new }
 {
-    let pass = map_by(alloc, mapping, world);
+    let pass = map_by(alloc, mapping, Flags { raw, pretty }, world);
     say_end(&pass, mapping, world);
     blobl_status(&pass)
 }

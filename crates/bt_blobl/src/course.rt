@@ -20,6 +20,15 @@ pub enum PassStop {
     NoMemory,
 }
 
+/// How lines are read and results printed.
+#[derive(Clone, Copy, Debug, PartialEq, Eq)]
+pub struct Flags {
+    /// Whether a line need be no JSON text of a value.
+    pub raw: bool,
+    /// Whether a result that is a list or an object as JSON is laid out over several lines.
+    pub pretty: bool,
+}
+
 /// The lines that were mapped: why there are no more, and whether the mapping of one failed.
 #[derive(Clone, Copy, Debug, PartialEq, Eq)]
 pub struct Pass {
@@ -61,8 +70,6 @@ pub enum Halt {
         /// The place of the literal, in bytes from 0.
         at: usize,
     },
-    /// It is a mapping of a form that doesn't run yet.
-    NotBuilt,
     /// The source couldn't be opened.
     NoSource,
     /// Memory was wanting before a line was read.

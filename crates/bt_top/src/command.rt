@@ -22,7 +22,7 @@ pub fn benthos<W: World>(alloc: Global, words: &[String], world: &mut W) -> Stat
     ensures runs { (config : List ℕ) → IsRun words.now config
         → RunPromise (over ⟦<W as World>⟧ ⟦<W::S as Source>⟧ ⟦<W::K as Sink>⟧ ⟦<W::A as Answerer>⟧ ⟦<W::C as Clock>⟧) config None result world.old world.new }
     ensures maps { (mapping : List ℕ) → IsBlobl words.now mapping
-        → BloblPromise (over ⟦<W as World>⟧ ⟦<W::S as Source>⟧ ⟦<W::K as Sink>⟧ ⟦<W::A as Answerer>⟧ ⟦<W::C as Clock>⟧) mapping result world.old world.new }
+        → BloblPromise (over ⟦<W as World>⟧ ⟦<W::S as Source>⟧ ⟦<W::K as Sink>⟧ ⟦<W::A as Answerer>⟧ ⟦<W::C as Clock>⟧) mapping (record { raw = false; pretty = false }) result world.old world.new }
     ensures refused { AreNoCommand words.now → result ≡ Status.Words }
     ensures usage { AreNoCommand words.now → SaysOnly ⟦<W as World>⟧ (usage_line ∷ []) world.old world.new }
 {

@@ -15,6 +15,6 @@ returns g c =
       counts = counts-named pass _ _ _ _ _ _ said.counts.1 said.counts.2 before.count;
       files = said.counts.0 ∙ before.files;
       tells = λ t.
-          went-said g.W.S.Source c.args.mapping.now _ _ _ _ _ _ _ _ said.told.1 said.told.2 (said.only t) said.said pass
+          went-said g.W.S.Source c.args.mapping.now _ _ _ _ _ _ _ _ _ said.told.1 said.told.2 (said.only t) said.said pass
           (before.went (said.told.0 t));
     }

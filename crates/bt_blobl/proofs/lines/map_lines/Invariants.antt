@@ -2,6 +2,7 @@ use Rattle.std.specs.Prelude.{◌≡◌, ◌+◌, ◌-◌, ◌≤◌, None, IsTr
 use Rattle.bt_intake.specs.Sources.{fault_count, SourcesKept}
 use Rattle.bt_ports.specs.World.{StillTells}
 use Rattle.bt_blobl.specs.Inside.{Going, PrintsOnly}
+use Rattle.bt_blobl.specs.Meaning.{task_of}
 use Rattle.bt_blobl.proofs.lines.map_lines.Given as goal
 
 abbrev pub invariant-lines : goal.invariant-lines
@@ -15,7 +16,7 @@ invariant-lines g l = record {
   kept : SourcesKept g.W.S.Source l.initial.intake.sources.list l.intake.sources.list;
   bound : l.intake.bound ≡ l.initial.intake.bound;
   room : l.n + (l.intake.bound - l.intake.given) ≤ l.initial.intake.bound;
-  going : Going g.W.S.Source l.ready.mapping l.n l.failed l.intake (g.W.World.tells l.world) (g.W.World.tells_printed l.world) (g.W.World.tells_lines l.world) (g.W.World.tale l.initial.world) (g.W.World.tale l.world);
+  going : Going g.W.S.Source (task_of l.ready.mapping l.flags) l.n l.failed l.intake (g.W.World.tells l.world) (g.W.World.tells_printed l.world) (g.W.World.tells_lines l.world) (g.W.World.tale l.initial.world) (g.W.World.tale l.world);
 }
 
 abbrev pub decreases-lines : goal.decreases-lines

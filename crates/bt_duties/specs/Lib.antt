@@ -1,0 +1,5 @@
+pub mod Calls
+pub mod DeskView
+pub mod Duties
+pub mod Inside
+pub mod Standing

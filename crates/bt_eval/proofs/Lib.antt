@@ -1,2 +1,0 @@
-pub mod ThisLemmas
-pub mod PathLemmas
