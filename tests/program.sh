@@ -42,7 +42,16 @@ left_output() { (sleep 1; "$program" run -c "$work/c.json" < "$work/input") > "$
 leaving_output() { "$program" run -c "$work/c.json" < "$work/long" > "$work/pipe"; }
 # a file of two blocks at most, at whose end the second record is torn
 short_output() { (ulimit -f 2; trap '' XFSZ; "$program" run -c "$work/c.json" < "$work/records" > "$work/short"); }
+lint() { "$program" lint "$@"; }
+full_lint() { "$program" lint "$1" > /dev/full; }
+answers() { "$program" run -c "$work/c.json" --answers "$1" < "$work/input"; }
+refused_answers() { "$program" run --answers="$work/none" -c"$1" < "$work/input"; }
+# config TEXT: the file with this configuration
+config() { printf '%s' "$1" > "$work/config.json"; echo "$work/config.json"; }
+wrong='{"output":{"drop":{},"stdout":{}},"x":1}'
 blobl() { printf '{"a":{"b":7}}\n{"a":1}\n' | "$program" blobl "$1"; }
+blobl_words() { printf '{}\n' | "$program" blobl "$@"; }
+usage="usage: benthos run, lint, test, blobl or load"
 full_blobl() { printf '{}\n' | "$program" blobl 'root = 1' > /dev/full; }
 closed_blobl() { printf '{}\n' | "$program" blobl 'root = 1' >&-; }
 directory_blobl() { "$program" blobl 'root = 1' < "$work"; }
@@ -78,5 +87,32 @@ case_of "a directory as standard input of blobl" 4 "source: read fault" director
 case_of "a word that is no text" 2 "usage: benthos run, lint, test, blobl or load" no_text
 case_of "a program name that is no text" 0 "taken 3 acknowledged 3 refused 0" foreign_name
 case_of "a directory as standard input" 4 "source: read fault" directory_input
+case_of "a configuration with lints" 3 "/output: not exactly one kind" run "$(config "$wrong")"
+[ "$(cat "$work/err")" = "$(printf '/output: not exactly one kind\n/x: unknown field')" ] || { echo "FAILED the lints of a run"; failed=1; }
+case_of "a configuration that is no JSON" 3 "config: not JSON" run "$(config '{}{}')"
+case_of "a number that is no whole number" 3 "config: number out of profile" run "$(config '{"version":1e0}')"
+head -c 16777217 /dev/zero | tr '\0' ' ' > "$work/big.json"
+case_of "a configuration that is too long" 3 "config: longer than 16777216 bytes" run "$work/big.json"
+case_of "a configuration that isn't built yet" 3 "config: not built" run "$(config '{"output":{"stdout":{}}}')"
+case_of "nothing is opened for a configuration with lints" 3 "/a: unknown field" refused_answers "$(config '{"a":1}')"
+[ ! -e "$work/none" ] || { echo "FAILED no answers are opened"; failed=1; }
+case_of "answers in a file" 0 "taken 3 acknowledged 3 refused 0" answers "$work/answers"
+printf '1 0 ack\n2 0 ack\n3 0 ack\n' | cmp -s - "$work/answers" || { echo "FAILED the answers"; failed=1; }
+case_of "answers that fail" 5 "answers: 3 faults" answers /dev/full
+case_of "answers that can't be opened" 4 "answers $work: cannot open" answers "$work"
+case_of "lint" 1 "" lint "$(config "$wrong")"
+printf '/output: not exactly one kind\n/x: unknown field\n' | cmp -s - "$work/out" || { echo "FAILED the printed lints"; failed=1; }
+case_of "lint of nothing wrong" 0 "" lint "$work/c.json"
+[ ! -s "$work/out" ] || { echo "FAILED nothing is printed"; failed=1; }
+case_of "lint of no JSON" 3 "config: not JSON" lint "$(config '[')"
+case_of "lint of a directory" 4 "file $work: cannot read" lint "$work"
+case_of "lint of a configuration that is too long" 3 "config: longer than 16777216 bytes" lint "$work/big.json"
+case_of "a full standard output of lint" 5 "out: write fault" full_lint "$(config "$wrong")"
+case_of "lint --migrate" 0 "" lint --migrate "$(config '{"pipeline":{"processors":[{"bloblang":"root = this"}]}}')"
+printf '{"pipeline":{"processors":[{"mapping":"root = this"}]},"version":2}\n' | cmp -s - "$work/out" || { echo "FAILED the migrated configuration"; failed=1; }
+case_of "a word behind dashes" 3 "mapping: syntax at line 1 column 2" blobl_words -- --raw
+case_of "a flag twice" 2 "$usage" blobl_words --raw --raw x
+case_of "a command that isn't built yet" 2 "$usage" "$program" test "$work/c.json"
+case_of "help" 2 "$usage" "$program" --help
 case_of "no words" 2 "usage: benthos run, lint, test, blobl or load" "$program"
 exit $failed
