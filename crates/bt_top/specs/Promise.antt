@@ -1,5 +1,5 @@
 -- What the program does, by its words.
-use Rattle.std.specs.Prelude.{◌≡◌, ◌||◌, ℕ, List, [], ◌∷◌, Bool, true, false, Option, Some, None, option_map, Result, Ok, Err, map, string_bytes}
+use Rattle.std.specs.Prelude.{◌≡◌, ℕ, List, [], ◌∷◌, Option, Some, None, option_map, Result, Ok, Err, map, string_bytes}
 use Rattle.std.specs.declared.alloc.Global.{Global}
 use Rattle.std.specs.declared.string.String.{String}
 use Rattle.bt_blobl.specs.Promise.{BloblPromise}
@@ -35,17 +35,12 @@ abbrev pub Runs : {W S K A C : Type 0} → Outside W S K A C → List ℕ → Op
 Runs o config answers None status a b = RunPromise o config answers status a b
 Runs o config answers (Some trace) status a b = SaysUsage o.world status a b
 
--- `blobl` without flags; with one it isn't built yet
-abbrev pub Maps : {W S K A C : Type 0} → Outside W S K A C → Bool → List ℕ → Status → W → W → Type 0
-Maps o false mapping status a b = BloblPromise o mapping status a b
-Maps o true mapping status a b = SaysUsage o.world status a b
-
 -- what was done of a command; `test`, `load` and `audit` aren't built yet
 abbrev pub Obeys : {W S K A C : Type 0} → Outside W S K A C → Command → Status → W → W → Type 0
 Obeys o (command.Run config answers trace) status a b = Runs o config.now (option_map (λ t. t.now) answers) (option_map (λ t. t.now) trace) status a b
 Obeys o (command.Lint migrate file) status a b = LintPromise o.world migrate file.now status a b
 Obeys o (command.Test file) status a b = SaysUsage o.world status a b
-Obeys o (command.Blobl raw pretty mapping) status a b = Maps o (raw || pretty) mapping.now status a b
+Obeys o (command.Blobl raw pretty mapping) status a b = BloblPromise o mapping.now (record { raw = raw; pretty = pretty }) status a b
 Obeys o (command.Load number seed) status a b = SaysUsage o.world status a b
 Obeys o (command.Audit config trace) status a b = SaysUsage o.world status a b
 

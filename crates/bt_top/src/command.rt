@@ -32,24 +32,21 @@ fn obey<W: World>(alloc: Global, command: Command<'_>, world: &mut W) -> Status
         } => run_one(alloc, config, answers, world),
         Command::Lint { migrate, file } => lint_command(alloc, file, migrate, world),
         Command::Blobl {
-            raw: false,
-            pretty: false,
+            raw,
+            pretty,
             mapping,
-        } => blobl_command(alloc, mapping, false, false, world),
-        Command::Run { .. }
-        | Command::Blobl { .. }
-        | Command::Test { .. }
-        | Command::Load { .. }
-        | Command::Audit { .. } => usage(world),
+        } => blobl_command(alloc, mapping, raw, pretty, world),
+        Command::Run { .. } | Command::Test { .. } | Command::Load { .. } | Command::Audit { .. } =>
+            usage(world),
     }
 }
 
 /// Does what the words after the program's name ask, and gives the status with which the program ends.
 ///
 /// `run -c FILE` runs the configuration in that file, with `--answers FILE` for its answers; `lint FILE` lints one, with
-/// `--migrate` for its form in the words of version 2; and `blobl MAPPING` maps the lines of the standard input. For words
-/// that are of no command's form, and for what isn't built yet (`test`, `load`, `audit`, `--trace`, `--raw` and `--pretty`), the
-/// usage is said and the world is asked for nothing.
+/// `--migrate` for its form in the words of version 2; and `blobl MAPPING` maps the lines of the standard input, with
+/// `--raw` as they are and with `--pretty` to JSON over several lines. For words that are of no command's form, and for what isn't
+/// built yet (`test`, `load`, `audit` and `--trace`), the usage is said and the world is asked for nothing.
 pub fn benthos<W: World>(alloc: Global, words: &[String], world: &mut W) -> Status
     ensures { BenthosPromise (over ⟦<W as World>⟧ ⟦<W::S as Source>⟧ ⟦<W::K as Sink>⟧ ⟦<W::A as Answerer>⟧ ⟦<W::C as Clock>⟧) words.now result world.old world.new }
 {
