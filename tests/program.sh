@@ -14,6 +14,9 @@ printf '%s\n%s\nc\n' "$long" "$long" > "$work/long"
 half=$(head -c 700 /dev/zero | tr '\0' a)
 other=$(head -c 700 /dev/zero | tr '\0' b)
 printf '%s\n%s\nc\n' "$half" "$other" > "$work/records"
+longest=$(head -c 65536 /dev/zero | tr '\0' x)
+printf 'a\n%s\n%sx\nb\n' "$longest" "$longest" > "$work/too_long"
+printf '%s\r\n' "$longest" > "$work/returned"
 failed=0
 
 # case NAME STATUS LINE COMMAND: the command's status, and its standard error's first line
@@ -32,6 +35,8 @@ case_of() {
 }
 
 run() { "$program" run -c "$1" < "$work/input"; }
+long_run() { "$program" run -c "$work/c.json" < "$1"; }
+long_blobl() { (printf '{}\n'; cat "$work/returned") | "$program" blobl 'root = 1'; }
 closed_output() { "$program" run -c "$work/c.json" < "$work/input" >&-; }
 full_output() { "$program" run -c "$work/c.json" < "$work/input" > /dev/full; }
 no_text() { "$program" run -c "$(printf '\377')" < "$work/input"; }
@@ -65,6 +70,11 @@ if [ "$(id -u)" -ne 0 ]; then
     cp "$work/c.json" "$work/secret.json" && chmod 000 "$work/secret.json"
     case_of "an unreadable configuration" 4 "file $work/secret.json: cannot read" run "$work/secret.json"
 fi
+case_of "a line that is too long" 7 "line 3: longer than 65536 bytes" long_run "$work/too_long"
+[ "$(tail -n 2 "$work/err" | head -n 1)" = "taken 2 acknowledged 2 refused 0" ] || { echo "FAILED the lines before one that is too long"; failed=1; }
+printf 'a\n%s\n' "$longest" | cmp -s - "$work/out" || { echo "FAILED the longest line"; failed=1; }
+case_of "a line that is too long for its carriage return" 7 "line 1: longer than 65536 bytes" long_run "$work/returned"
+case_of "a line of blobl that is too long" 7 "line 2: longer than 65536 bytes" long_blobl
 case_of "a closed standard output" 1 "taken 3 acknowledged 0 refused 3" closed_output
 case_of "a full standard output" 1 "taken 3 acknowledged 0 refused 3" full_output
 mkfifo "$work/pipe"
