@@ -53,7 +53,7 @@ use Rattle.bt_ports.specs.declared.parts.Verdict.{Verdict}
 use Rattle.bt_ports.specs.declared.parts.Verdict.TheVariants.{Refused}
 use Rattle.bt_sound.specs.Answers.{is_for, calls_for, Called, Says, PastSays, IsRefusal, RefusalsFrom}
 use Rattle.bt_sound.specs.Counting.{answer_with, AnswersCounted, ReleasesSum}
-use Rattle.bt_sound.proofs.Counting.{counted_more, summed_answer}
+use Rattle.bt_sound.proofs.Counting.{counted_more, summed_answer, answer_memory}
 use Rattle.bt_sound.specs.Records.{is_of, records_of, LeafTold, Told, PutOne, PutAt}
 use Rattle.bt_sound.specs.Sound.{here, in_slots, in_past, SaysTrue, Unknown, Sound}
 use Rattle.bt_sound.specs.Transactions.{IsTransaction, IsTaken, Taken, IsPlanned, Planned, Shaped, WasTaken, untried_parts, given_open, refused_open}
@@ -98,6 +98,7 @@ sound_close gi gk ga gc gd f closed s h w g done =
       course = h.course;
       counted = h.counted;
       summed = h.summed;
+      refusals = h.refusals;
       expected = over_slot (λ y. Taken gi gc f.outside (number_in y) (moment_in y) (items_in y)) is_out f.ledger s Free w refl h.expected;
       untouched = over_trees (λ v. Untouched v) f.ledger s Free w (λ b. tt) h.untouched;
       past_answered = (done, h.past_answered);
@@ -212,6 +213,7 @@ sound_answer gi gk ga gc gd f closed s i c u n h w due en ei ev ey told calls cn
       course = h.course;
       counted = λ tells. subst (λ v. AnswersCounted v n) (sym (calls tells)) (subst (λ k. AnswersCounted (ga.calls f.answerer ++ c ∷ []) k) (sym cn) (counted_more (ga.calls f.answerer) c f.counts (h.counted (told tells))));
       summed = subst (λ k. ReleasesSum f.releases k) (sym cn) (summed_answer f.releases c.verdict c.failed f.counts h.summed);
+      refusals = h.refusals ∙ answer_memory (open_in (slot_at f.ledger s)) i c.verdict c.failed f.counts n ev cn;
       expected = over_slot (λ y. Taken gi gc f.outside (number_in y) (moment_in y) (items_in y)) is_out f.ledger s (Given (record (open_in (slot_at f.ledger s)) { answered = set (answered_in (slot_at f.ledger s)) i true })) w.0 refl h.expected;
       untouched = over_trees (λ v. Untouched v) f.ledger s (Given (record (open_in (slot_at f.ledger s)) { answered = set (answered_in (slot_at f.ledger s)) i true })) w.0 (λ b. h.untouched s b) h.untouched;
       past_answered = h.past_answered;
@@ -246,3 +248,8 @@ sound_answer gi gk ga gc gd f closed s i c u n h w due en ei ev ey told calls cn
           ));
       no_other = λ tells. subst (λ v. AllByRecursion (λ x. (1 ≤ x.number) × (x.number ≤ f.outside.taken)) v) (sym (calls tells)) (each_snoc (λ x. (1 ≤ x.number) × (x.number ≤ f.outside.taken)) (ga.calls f.answerer) c (h.no_other (told tells)) (let a = range.0 in let b = range.1 in (omega arith, omega arith)));
     }
+
+-- what the outside says of refusals is what the counts say
+pub sound_memory : {I K A C D : Type 0} (gi : Intake.Ghosts I) (gk : Sink.Ghosts K) (ga : Answerer.Ghosts A) (gc : Clock.Ghosts C) (gd : Derive.Ghosts D) (f : FloorView I K A C D) (closed : List Past) (k : ℕ) → f.outside.refused_memory ≡ k → Sound gi gk ga gc gd f closed
+    → Sound gi gk ga gc gd (record f { outside = record f.outside { refused_memory = k } }) closed
+sound_memory gi gk ga gc gd f closed k e h = subst (λ q. Sound gi gk ga gc gd (record f { outside = record f.outside { refused_memory = q } }) closed) e h

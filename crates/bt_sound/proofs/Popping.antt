@@ -53,7 +53,7 @@ use Rattle.bt_ports.specs.declared.parts.Verdict.{Verdict}
 use Rattle.bt_ports.specs.declared.parts.Verdict.TheVariants.{Refused}
 use Rattle.bt_sound.specs.Answers.{is_for, calls_for, Called, Says, PastSays, IsRefusal, RefusalsFrom}
 use Rattle.bt_sound.specs.Counting.{count_with, AnswersCounted, ReleasesSum}
-use Rattle.bt_sound.proofs.Counting.{counted_release, summed_release}
+use Rattle.bt_sound.proofs.Counting.{counted_release, summed_release, release_memory}
 use Rattle.bt_ledger.specs.declared.reason.Reason.{Reason}
 use Rattle.bt_sound.specs.Records.{is_of, records_of, LeafTold, Told, PutOne, PutAt}
 use Rattle.bt_sound.specs.Sound.{here, in_slots, in_past, SaysTrue, Unknown, Sound}
@@ -95,6 +95,7 @@ sound_release gi gk ga gc gd f closed n why k rs h w ek er =
       no_other = h.no_other;
       counted = λ tells. subst (λ q. AnswersCounted (ga.calls f.answerer) q) (sym ek) (counted_release (ga.calls f.answerer) why f.counts (h.counted tells));
       summed = subst (λ q. ReleasesSum q k) (sym er) (subst (λ q. ReleasesSum (set f.releases n (one_more (get_or f.releases n 0))) q) (sym ek) (summed_release f.releases n why f.counts w h.summed));
+      refusals = h.refusals ∙ sym (ap (λ (x : Counts). x.refused_memory) ek ∙ release_memory why f.counts);
       policies = h.policies;
       sinks = h.sinks;
       releases = len ∙ h.releases;

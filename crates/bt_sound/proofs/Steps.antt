@@ -87,6 +87,7 @@ sound_step gi gk ga gc gd f closed s p t cs us h w u o ut n told past unwritten 
       course = h.course;
       counted = h.counted;
       summed = h.summed;
+      refusals = h.refusals;
       expected = over_slot (λ y. Taken gi gc f.outside (number_in y) (moment_in y) (items_in y)) is_out f.ledger s (Given (stepped_open (open_in (slot_at f.ledger s)) p t)) w.0 refl h.expected;
       untouched = λ a b. elim (part_cases f.ledger s p t a b w) [
         | inl i ↦ subst (λ v. Untouched v) (sym i.1) (ut (h.untouched s p))

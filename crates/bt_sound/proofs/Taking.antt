@@ -177,7 +177,7 @@ pub sound_take : {I K A C D : Type 0} (gi : Intake.Ghosts I) (gk : Sink.Ghosts K
 sound_take gi gk ga gc gd f closed s i c t h w free goes next =
     let x : Slot = Out (f.outside.taken + 1) t.moment (length t.items.list) in
     let l = next_later gi gc f.outside i c t next in
-    let later : (o : Open) → Planned gi gc gd f.outside o → Planned gi gc gd (record f.outside { intake = i; clock = c; taken = f.outside.taken + 1 }) o = λ o p. planned_later gi gc gd f.outside i c (f.outside.taken + 1) f.outside.ending o l p in
+    let later : (o : Open) → Planned gi gc gd f.outside o → Planned gi gc gd (record f.outside { intake = i; clock = c; taken = f.outside.taken + 1 }) o = λ o p. planned_later gi gc gd f.outside i c (f.outside.taken + 1) f.outside.ending f.outside.refused_memory o l p in
     record {
       placed = λ j. (let a = in_slots_set j f.ledger.slots s (Out (f.outside.taken + 1) t.moment (length t.items.list)) w in
           let b : here j (slot_at f.ledger s) ≡ 0 = ap (here j) free in
@@ -192,18 +192,19 @@ sound_take gi gk ga gc gd f closed s i c t h w free goes next =
       course = course_next gi gc f.outside i c t h.course goes next;
       counted = h.counted;
       summed = h.summed;
+      refusals = h.refusals;
       expected = λ a e. elim (close_cases f.ledger s a (Out (f.outside.taken + 1) t.moment (length t.items.list)) w) [
         | inl j ↦ subst (λ y. Taken gi gc (record f.outside { intake = i; clock = c; taken = f.outside.taken + 1 }) (number_in y) (moment_in y) (items_in y)) (sym j.1)
             (λ p q r. (t, record { is = next_is gi gc f.outside i c t h.course next p q r; number = next.number; moment = refl; items = refl }))
         | inr j ↦ subst (λ y. Taken gi gc (record f.outside { intake = i; clock = c; taken = f.outside.taken + 1 }) (number_in y) (moment_in y) (items_in y)) (sym j.1)
-            (taken_later gi gc f.outside i c (f.outside.taken + 1) f.outside.ending _ _ _ l (h.expected a (ap is_out (sym j.1) ∙ e)))
+            (taken_later gi gc f.outside i c (f.outside.taken + 1) f.outside.ending f.outside.refused_memory _ _ _ l (h.expected a (ap is_out (sym j.1) ∙ e)))
       ];
       untouched = over_trees (λ v. Untouched v) f.ledger s (Out (f.outside.taken + 1) t.moment (length t.items.list)) w (λ b. tt) h.untouched;
       past_answered = h.past_answered;
       shaped = over_out (λ y. Shaped gd f.outside y) is_given f.ledger s (Out (f.outside.taken + 1) t.moment (length t.items.list)) w refl h.shaped;
       planned = over_out (λ y. Planned gi gc gd (record f.outside { intake = i; clock = c; taken = f.outside.taken + 1 }) y) is_given f.ledger s (Out (f.outside.taken + 1) t.moment (length t.items.list)) w refl (λ a e. later (open_in (slot_at f.ledger a)) (h.planned a e));
       past_taken = each_map (λ p. WasTaken gi gc gd f.outside p) (λ p. WasTaken gi gc gd (record f.outside { intake = i; clock = c; taken = f.outside.taken + 1 }) p) closed
-          (λ p y. record { planned = λ e. later p.state (y.planned e); shaped = y.shaped; refused = λ e. taken_later gi gc f.outside i c (f.outside.taken + 1) f.outside.ending _ _ _ l (y.refused e); without = y.without }) h.past_taken;
+          (λ p y. record { planned = λ e. later p.state (y.planned e); shaped = y.shaped; refused = λ e. taken_later gi gc f.outside i c (f.outside.taken + 1) f.outside.ending f.outside.refused_memory _ _ _ l (y.refused e); without = y.without }) h.past_taken;
       told = λ d. over_out (λ y. Told gk f.sinks d y) is_given f.ledger s (Out (f.outside.taken + 1) t.moment (length t.items.list)) w refl (h.told d);
       past_told = h.past_told;
       unwritten = λ d q b k j v y. h.unwritten d q b k j v (
@@ -232,11 +233,11 @@ sound_stop gi gk ga gc gd f closed i r s h =
     record {
       placed = h.placed;
       course = course_stop gi gc f.outside i r s h.course;
-      expected = λ a e. taken_later gi gc f.outside i f.outside.clock f.outside.taken (Some s.ending) _ _ _ l (h.expected a e);
-      planned = λ a e. planned_later gi gc gd f.outside i f.outside.clock f.outside.taken (Some s.ending) _ l (h.planned a e);
+      expected = λ a e. taken_later gi gc f.outside i f.outside.clock f.outside.taken (Some s.ending) f.outside.refused_memory _ _ _ l (h.expected a e);
+      planned = λ a e. planned_later gi gc gd f.outside i f.outside.clock f.outside.taken (Some s.ending) f.outside.refused_memory _ l (h.planned a e);
       shaped = h.shaped;
       past_taken = each_map (λ p. WasTaken gi gc gd f.outside p) (λ p. WasTaken gi gc gd (record f.outside { intake = i; ending = Some s.ending }) p) closed
-          (λ p y. record { planned = λ e. planned_later gi gc gd f.outside i f.outside.clock f.outside.taken (Some s.ending) _ l (y.planned e); shaped = y.shaped; refused = λ e. taken_later gi gc f.outside i f.outside.clock f.outside.taken (Some s.ending) _ _ _ l (y.refused e); without = y.without }) h.past_taken;
+          (λ p y. record { planned = λ e. planned_later gi gc gd f.outside i f.outside.clock f.outside.taken (Some s.ending) f.outside.refused_memory _ l (y.planned e); shaped = y.shaped; refused = λ e. taken_later gi gc f.outside i f.outside.clock f.outside.taken (Some s.ending) f.outside.refused_memory _ _ _ l (y.refused e); without = y.without }) h.past_taken;
       past_answered = h.past_answered;
       untouched = h.untouched;
       told = h.told;
@@ -248,6 +249,7 @@ sound_stop gi gk ga gc gd f closed i r s h =
       no_other = h.no_other;
       counted = h.counted;
       summed = h.summed;
+      refusals = h.refusals;
       policies = h.policies;
       sinks = h.sinks;
       releases = h.releases;
@@ -291,6 +293,7 @@ sound_give gi gk ga gc gd f closed s ps h w out fit derived =
       course = h.course;
       counted = h.counted;
       summed = h.summed;
+      refusals = h.refusals;
       expected = over_slot (λ y. Taken gi gc f.outside (number_in y) (moment_in y) (items_in y)) is_out f.ledger s (Given (given_open (slot_at f.ledger s) ps)) w refl h.expected;
       untouched = over_trees (λ v. Untouched v) f.ledger s (Given (given_open (slot_at f.ledger s) ps)) w (λ b. unbegun-untouched (tree_of ps b) (fresh_at _ _ _ ps b fit)) h.untouched;
       past_answered = h.past_answered;
@@ -332,9 +335,9 @@ none_ranged n = elim (leb_tells n 0) [
 -- a floor on which nothing was taken
 pub sound_make : {I K A C D : Type 0} (gi : Intake.Ghosts I) (gk : Sink.Ghosts K) (ga : Answerer.Ghosts A) (gc : Clock.Ghosts C) (gd : Derive.Ghosts D) (f : FloorView I K A C D) (w : ℕ)
     → f.ledger.slots ≡ replicate w Free → f.ledger.policies ≡ gd.policies f.outside.plan → length f.sinks ≡ gd.sinks f.outside.plan → length f.releases ≡ length f.ledger.policies → length f.releases < 2 ^ 32 → 64 ≤ f.ledger.entries
-    → f.entries ≡ f.ledger.entries → f.outside.taken ≡ 0 → Course gi gc f.outside → AnswersCounted [] f.counts → ReleasesSum f.releases f.counts → ((d : K) (k : ℕ) → k < length f.sinks → IsTrue (gk.tells (get_or f.sinks k d)) → (gk.accepted (get_or f.sinks k d) ≡ []) × (gk.refused (get_or f.sinks k d) ≡ [])) → (IsTrue (ga.tells f.answerer) → ga.calls f.answerer ≡ [])
+    → f.entries ≡ f.ledger.entries → f.outside.taken ≡ 0 → Course gi gc f.outside → AnswersCounted [] f.counts → ReleasesSum f.releases f.counts → f.outside.refused_memory ≡ f.counts.refused_memory → ((d : K) (k : ℕ) → k < length f.sinks → IsTrue (gk.tells (get_or f.sinks k d)) → (gk.accepted (get_or f.sinks k d) ≡ []) × (gk.refused (get_or f.sinks k d) ≡ [])) → (IsTrue (ga.tells f.answerer) → ga.calls f.answerer ≡ [])
     → Sound gi gk ga gc gd f []
-sound_make gi gk ga gc gd f w es ep ek er few wide en et course uncounted summed unwritten unanswered =
+sound_make gi gk ga gc gd f w es ep ek er few wide en et course uncounted summed refusals unwritten unanswered =
     let free : (s : ℕ) → slot_at f.ledger s ≡ Free = λ s. ap (λ xs. get_or xs s Free) es ∙ free_at w s in
     let none_at : (s : ℕ) → is_given (slot_at f.ledger s) ≡ true → ⊥ = λ s e. (let z : is_given Free ≡ true = ap is_given (sym (free s)) ∙ e in cc) in
     record {
@@ -348,6 +351,7 @@ sound_make gi gk ga gc gd f w es ep ek er few wide en et course uncounted summed
       course = course;
       counted = λ t. subst (λ cs. AnswersCounted cs f.counts) (sym (unanswered t)) uncounted;
       summed = summed;
+      refusals = refusals;
       expected = λ s e. (let z : is_out Free ≡ true = ap is_out (sym (free s)) ∙ e in cc);
       shaped = λ s e. absurd (none_at s e);
       planned = λ s e. absurd (none_at s e);

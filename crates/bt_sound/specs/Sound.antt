@@ -74,6 +74,7 @@ pub record Sound {I K A C D : Type 0} (gi : Intake.Ghosts I) (gk : Sink.Ghosts K
   -- the counts are the numbers of answers and of releases
   pub counted : IsTrue (ga.tells f.answerer) → AnswersCounted (ga.calls f.answerer) f.counts
   pub summed : ReleasesSum f.releases f.counts
+  pub refusals : f.outside.refused_memory ≡ f.counts.refused_memory
   -- holds and sinks are the plan's, and the pool has at least as many entries as a part may have holds
   pub policies : f.ledger.policies ≡ gd.policies f.outside.plan
   pub sinks : length f.sinks ≡ gd.sinks f.outside.plan
