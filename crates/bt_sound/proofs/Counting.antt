@@ -1,7 +1,7 @@
 -- The counts stay the numbers of calls and of releases.
-use Rattle.std.proofs.Common.{◌≡◌, ℕ, zero, suc, ◌+◌, ◌<◌, Bool, true, false, cond, not, List, [], ◌∷◌, ◌++◌, length, get_or, set, arith, refl, sym, ap, ◌∙◌, subst, Option, Some, None, eqb}
+use Rattle.std.proofs.Common.{◌≡◌, ℕ, zero, suc, ◌+◌, ◌<◌, Bool, true, false, cond, not, List, [], ◌∷◌, ◌++◌, length, get_or, set, arith, refl, sym, ap, ◌∙◌, Option, Some, None, eqb}
 use Rattle.std.specs.List.{AllByRecursion, count_by, sum}
-use Rattle.std.specs.Prelude.{min, replicate, ◌*◌}
+use Rattle.std.specs.Prelude.{replicate, ◌*◌}
 use Rattle.std.proofs.lemmas.List.Folds.{sum_by-replicate}
 use Rattle.std.proofs.lemmas.List.Sums.{sum_by-set, sum_by_push}
 use Rattle.bt_demand.specs.Parts.{Part}
@@ -16,7 +16,7 @@ use Rattle.bt_ports.specs.declared.parts.AnswerCall.{AnswerCall}
 use Rattle.bt_ports.specs.declared.parts.Cause.TheVariants.{SinkFault, Rejected, NoMemory}
 use Rattle.bt_ports.specs.declared.parts.Verdict.{Verdict}
 use Rattle.bt_ports.specs.declared.parts.Verdict.TheVariants.{Ack, Refused}
-use Rattle.bt_sound.specs.Counting.{verdict_with, answer_with, count_with, acks, wants_memory, capped, AnswersCounted, BelowLast, by_reason, ReleasesSum, no_counts}
+use Rattle.bt_sound.specs.Counting.{answer_with, count_with, acks, wants_memory, capped, AnswersCounted, ReleasesSum, no_counts}
 use Rattle.bt_sound.specs.declared.counts.Counts.{Counts}
 
 count_snoc : {T : Type 0} (p : T → Bool) (xs : List T) (x : T) → count_by p (xs ++ x ∷ []) ≡ count_by p xs + cond {A = ℕ} (p x) 1 0

@@ -1,5 +1,5 @@
 -- The intake gives one batch more, or says how the run ends.
-use Rattle.std.proofs.Common.{◌≡◌, ◌≢◌, ℕ, zero, suc, ◌+◌, ◌-◌, ◌<◌, ◌≤◌, ◌^◌, ◌⊎◌, inl, inr, arith, refl, sym, ap, ◌∙◌, subst, List, length, IsTrue, Option, Some, None}
+use Rattle.std.proofs.Common.{◌≡◌, ℕ, ◌+◌, ◌-◌, ◌<◌, ◌≤◌, ◌^◌, ◌⊎◌, inl, inr, arith, refl, sym, ap, ◌∙◌, subst, List, length, IsTrue, Option, Some, None}
 use Rattle.std.specs.Prelude.{slice_get}
 use Rattle.std.proofs.lemmas.Bool.Decides.{leb_tells}
 use Rattle.bt_demand.specs.declared.derive.Derive as Derive
@@ -14,7 +14,7 @@ use Rattle.bt_ports.specs.declared.parts.Next.{Next}
 use Rattle.bt_ports.specs.declared.parts.Next.TheVariants as next
 use Rattle.bt_ports.specs.declared.parts.Txn.{Txn}
 use Rattle.bt_sound.specs.Course.{Course, ending_of, GaveAll, IsStop, FaultCounted}
-use Rattle.bt_sound.specs.Transactions.{IsTransaction, IsTaken, Taken, IsPlanned, Planned}
+use Rattle.bt_sound.specs.Transactions.{IsTransaction, Taken, Planned}
 use Rattle.bt_sound.specs.View.{Outside}
 use Rattle.bt_sound.specs.declared.counts.Ending.{Ending}
 
