@@ -231,3 +231,13 @@ out_within (x ∷ xs) (suc s) o = let a = out_within xs s o in omega arith
 -- a transaction that is out has a slot
 pub out_there : (l : Ledger) (s : ℕ) → is_out (slot_at l s) ≡ true → s < length l.slots
 out_there l s o = out_within l.slots s o
+
+few_taken : (xs : List Slot) → taken_slots xs ≤ length xs
+few_taken [] = omega arith
+few_taken (Free ∷ xs) = let a = few_taken xs in omega arith
+few_taken (Out n m i ∷ xs) = let a = few_taken xs in omega arith
+few_taken (Given o ∷ xs) = let a = few_taken xs in omega arith
+
+-- no more are out or open than there are slots
+pub few_opened : (l : Ledger) → opened l ≤ length l.slots
+few_opened l = few_taken l.slots

@@ -37,7 +37,7 @@ free_out (Out n m i) a b = cc
 free_out (Given o) a b = cc
 
 -- a duty delivered its transaction
-pub standing_delivered : {I K A C D : Type 0} (d : DeskView I K A C D) (g : FloorView I K A C D) (k : ℕ) → Standing d → k < length d.duties → (duty_at d.duties k).number ≢ 0 → Resting g.ledger → Delivered (duty_at d.duties k).slot d.floor.ledger g.ledger → length g.ledger.slots ≡ length d.floor.ledger.slots → g.outside ≡ d.floor.outside
+pub standing_delivered : {I K A C D : Type 0} (d : DeskView I K A C D) (g : FloorView I K A C D) (k : ℕ) → Standing d → k < length d.duties → (duty_at d.duties k).number ≢ 0 → Resting g.ledger → Delivered (duty_at d.duties k).slot d.floor.ledger g.ledger → length g.ledger.slots ≡ length d.floor.ledger.slots → g.outside.ending ≡ d.floor.outside.ending
     → Standing (record d { floor = g; duties = set d.duties k idle })
 standing_delivered d g k h w b r f n o =
     let u = h.dutiful.known k b in
@@ -46,7 +46,7 @@ standing_delivered d g k h w b r f n o =
       dutiful = dutiful_delivered d.floor.ledger g.ledger d.duties k w b f h.dutiful;
       window = n ∙ h.window;
       some = h.some;
-      finished = λ x. subst (λ v. IsSome v.ending) (sym o) (h.finished x);
+      finished = λ x. subst (λ v. IsSome v) (sym o) (h.finished x);
       free = λ x. absurd (free_out (slot_at d.floor.ledger (duty_at d.duties k).slot) (h.free x (duty_at d.duties k).slot) u.out);
       empty = λ x. absurd (free_out (slot_at d.floor.ledger (duty_at d.duties k).slot) (h.free x (duty_at d.duties k).slot) u.out);
     }

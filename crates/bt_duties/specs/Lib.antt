@@ -3,3 +3,4 @@ pub mod DeskView
 pub mod Duties
 pub mod Inside
 pub mod Standing
+pub mod Stands

@@ -1,12 +1,13 @@
 //! The desk's calls.
-ghost use Rattle.std.specs.Prelude.{◌≡◌, ◌≢◌, ℕ, ◌<◌, ◌≤◌, ◌^◌, IfErr, IfOk, IsSome, None, [], eqb, false, length, not, replicate, true, ◌⊎◌};
+ghost use Rattle.std.specs.Prelude.{◌≡◌, ◌+◌, ◌≢◌, ℕ, ◌<◌, ◌≤◌, ◌^◌, IfErr, IfOk, IsSome, None, [], eqb, false, length, not, replicate, true, ◌⊎◌};
 ghost use Rattle.std.specs.List.{list_any};
 ghost use Rattle.bt_demand.specs.Parts.{PartsFit, parts_of};
 ghost use Rattle.bt_duties.specs.Calls.{Admits, WasFull};
 ghost use Rattle.bt_duties.specs.Duties.{AllIdle, duty_at, idle, items_out, number_out};
 ghost use Rattle.bt_floor.specs.Calls.{Begins, NothingAnswered, NothingPut};
 ghost use Rattle.bt_ledger.specs.Ledger.{opened};
-ghost use Rattle.bt_sound.specs.Sound.{IsSound};
+ghost use Rattle.bt_duties.specs.Stands.{IsStanding};
+ghost use Rattle.bt_sound.specs.Counting.{capped};
 ghost use Rattle.bt_sound.specs.Transactions.{Derived};
 
 use crate::admit::{Admit, answer_of};
@@ -53,8 +54,6 @@ impl<I: Intake, K: Sink, A: Answerer, C: Clock, D: Derive> Model for Desk<I, K, 
 }
 
 impl<I: Intake, K: Sink, A: Answerer, C: Clock, D: Derive> Desk<I, K, A, C, D> {
-    ghost use Rattle.bt_duties.specs.Standing.{Standing};
-
     /// A desk over these parts, on which nothing was taken, for so many duties, with a window of so many transactions and
     /// a pool of so many entries. It takes all memory that settling needs.
     ///
@@ -109,16 +108,24 @@ impl<I: Intake, K: Sink, A: Answerer, C: Clock, D: Derive> Desk<I, K, A, C, D> {
         requires idle { (duty_at self.old.duties duty).number ≡ 0 }
         requires goes { self.old.floor.outside.ending ≡ None }
         ensures admits { Admits ⟦<I as Intake>⟧ ⟦<C as Clock>⟧ duty result self.old self.new }
-        ensures stands { Standing self.new }
-        ensures sound { IsSound ⟦<I as Intake>⟧ ⟦<K as Sink>⟧ ⟦<A as Answerer>⟧ ⟦<C as Clock>⟧ ⟦<D as Derive>⟧ self.new.floor }
+        ensures window { self.new.window ≡ self.old.window }
+        ensures stands { IsStanding ⟦<I as Intake>⟧ ⟦<K as Sink>⟧ ⟦<A as Answerer>⟧ ⟦<C as Clock>⟧ ⟦<D as Derive>⟧ self.new }
     {
         if !self.make_place() {
-            self.floor.sound();
+            self.stands();
             return Admit::Full;
         }
         let answer = self.take(duty);
-        self.floor.sound();
+        self.stands();
         answer
+    }
+
+    // A law of the desk: how it stands between two calls.
+    fn stands(&self)
+        ensures { IsStanding ⟦<I as Intake>⟧ ⟦<K as Sink>⟧ ⟦<A as Answerer>⟧ ⟦<C as Clock>⟧ ⟦<D as Derive>⟧ self.now }
+    {
+        self.floor.in_order();
+        self.floor.sound();
     }
 
     // Makes sure that a slot is free, by a flush where the window is full and no duty is out. It gives false where one is.
@@ -145,6 +152,7 @@ impl<I: Intake, K: Sink, A: Answerer, C: Clock, D: Derive> Desk<I, K, A, C, D> {
         requires idle { (duty_at self.old.duties duty).number ≡ 0 }
         requires goes { self.old.floor.outside.ending ≡ None }
         requires place { opened self.old.floor.ledger < length self.old.floor.ledger.slots }
+        ensures window { self.new.window ≡ self.old.window }
         ensures admits { Admits ⟦<I as Intake>⟧ ⟦<C as Clock>⟧ duty result self.old self.new }
     {
         match self.floor.take() {
@@ -165,7 +173,8 @@ impl<I: Intake, K: Sink, A: Answerer, C: Clock, D: Derive> Desk<I, K, A, C, D> {
     /// Delivers what became of a duty's transaction: its parts, which are those that the plan derives for it, or that
     /// there was no memory for them. Afterwards the duty is idle.
     ///
-    /// The parts are settled in order, as far as they go. Without memory each item is refused for that. Takes no memory.
+    /// The parts are settled in order, as far as they go. Items are refused for want of memory exactly where there was none
+    /// for the parts, and then all are. Takes no memory.
     pub fn deliver(&mut self, duty: u32, routes: Result<Routes, NoMemory>)
         requires duty { duty < length self.old.duties }
         requires out { (duty_at self.old.duties duty).number ≢ 0 }
@@ -176,9 +185,10 @@ impl<I: Intake, K: Sink, A: Answerer, C: Clock, D: Derive> Desk<I, K, A, C, D> {
         requires derived { IfOk routes (λ r. Derived ⟦<I as Intake>⟧ ⟦<C as Clock>⟧ ⟦<D as Derive>⟧ self.old.floor.outside (duty_at self.old.duties duty).number (parts_of r.parts.list)) }
         ensures idle { duty_at self.new.duties duty ≡ idle }
         ensures others { (j : ℕ) → j ≢ duty → duty_at self.new.duties j ≡ duty_at self.old.duties j }
-        ensures outside { self.new.floor.outside ≡ self.old.floor.outside }
-        ensures stands { Standing self.new }
-        ensures sound { IsSound ⟦<I as Intake>⟧ ⟦<K as Sink>⟧ ⟦<A as Answerer>⟧ ⟦<C as Clock>⟧ ⟦<D as Derive>⟧ self.new.floor }
+        ensures kept { IfOk routes (λ _. self.new.floor.outside ≡ self.old.floor.outside) }
+        ensures refused { IfErr routes (λ _. self.new.floor.outside ≡ record self.old.floor.outside { refused_memory = capped (self.old.floor.outside.refused_memory + (duty_at self.old.duties duty).items) }) }
+        ensures window { self.new.window ≡ self.old.window }
+        ensures stands { IsStanding ⟦<I as Intake>⟧ ⟦<K as Sink>⟧ ⟦<A as Answerer>⟧ ⟦<C as Clock>⟧ ⟦<D as Derive>⟧ self.new }
     {
         let Duty { items, slot, .. } = entry(&self.duties, duty);
         self.floor.settle(slot, items, routes);
@@ -187,7 +197,7 @@ impl<I: Intake, K: Sink, A: Answerer, C: Clock, D: Derive> Desk<I, K, A, C, D> {
             items: 0,
             slot: 0,
         };
-        self.floor.sound();
+        self.stands();
     }
 
     /// Closes a run that has ended, while no duty is out. All that waits is released, and all items of all taken
@@ -198,12 +208,12 @@ impl<I: Intake, K: Sink, A: Answerer, C: Clock, D: Derive> Desk<I, K, A, C, D> {
         ensures finished { self.new.finished ≡ true }
         ensures duties { self.new.duties ≡ self.old.duties }
         ensures outside { self.new.floor.outside ≡ self.old.floor.outside }
-        ensures stands { Standing self.new }
-        ensures sound { IsSound ⟦<I as Intake>⟧ ⟦<K as Sink>⟧ ⟦<A as Answerer>⟧ ⟦<C as Clock>⟧ ⟦<D as Derive>⟧ self.new.floor }
+        ensures window { self.new.window ≡ self.old.window }
+        ensures stands { IsStanding ⟦<I as Intake>⟧ ⟦<K as Sink>⟧ ⟦<A as Answerer>⟧ ⟦<C as Clock>⟧ ⟦<D as Derive>⟧ self.new }
     {
         self.floor.flush_all(Reason::End);
         self.finished = true;
-        self.floor.sound();
+        self.stands();
     }
 
     /// How the intake ended, and None while it goes on.
@@ -236,10 +246,9 @@ impl<I: Intake, K: Sink, A: Answerer, C: Clock, D: Derive> Desk<I, K, A, C, D> {
         ensures taken { result.taken ≡ self.now.floor.outside.taken }
         ensures counts { result.counts ≡ self.now.floor.counts }
         ensures ending { result.ending ≡ self.now.floor.outside.ending }
-        ensures stands { Standing self.now }
-        ensures sound { IsSound ⟦<I as Intake>⟧ ⟦<K as Sink>⟧ ⟦<A as Answerer>⟧ ⟦<C as Clock>⟧ ⟦<D as Derive>⟧ self.now.floor }
+        ensures stands { IsStanding ⟦<I as Intake>⟧ ⟦<K as Sink>⟧ ⟦<A as Answerer>⟧ ⟦<C as Clock>⟧ ⟦<D as Derive>⟧ self.now }
     {
-        self.floor.sound();
+        self.stands();
         Report {
             taken: self.floor.taken(),
             counts: self.floor.counts(),
@@ -254,10 +263,9 @@ impl<I: Intake, K: Sink, A: Answerer, C: Clock, D: Derive> Desk<I, K, A, C, D> {
         ensures sinks { result.sinks.list ≡ self.floor.sinks }
         ensures answerer { result.answerer ≡ self.floor.answerer }
         ensures clock { result.clock ≡ self.floor.outside.clock }
-        ensures stands { Standing self }
-        ensures sound { IsSound ⟦<I as Intake>⟧ ⟦<K as Sink>⟧ ⟦<A as Answerer>⟧ ⟦<C as Clock>⟧ ⟦<D as Derive>⟧ self.floor }
+        ensures stands { IsStanding ⟦<I as Intake>⟧ ⟦<K as Sink>⟧ ⟦<A as Answerer>⟧ ⟦<C as Clock>⟧ ⟦<D as Derive>⟧ self }
     {
-        self.floor.sound();
+        self.stands();
         let Desk {
             floor,
             duties: _,

@@ -73,4 +73,4 @@ pub record Begins {I K A C D : Type 0} (f : FloorView I K A C D) (plan : D) (pol
   pub answerer : f.answerer ≡ p.answerer
   pub releases : f.releases ≡ replicate (length policies) 0
   pub counts : f.counts ≡ no_counts
-  pub outside : f.outside ≡ record { plan = plan; intake = p.intake; clock = p.clock; taken = 0; ending = None }
+  pub outside : f.outside ≡ record { plan = plan; intake = p.intake; clock = p.clock; taken = 0; ending = None; refused_memory = 0 }

@@ -11,5 +11,5 @@ shown f =
       releases = f.releases.items;
       counts = f.counts;
       entries = f.entries;
-      outside = record { plan = f.plan.value; intake = f.intake; clock = f.clock; taken = f.taken; ending = f.ending };
+      outside = record { plan = f.plan.value; intake = f.intake; clock = f.clock; taken = f.taken; ending = f.ending; refused_memory = f.counts.refused_memory };
     }

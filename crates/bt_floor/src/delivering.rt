@@ -1,5 +1,5 @@
 //! The parts of a delivered transaction, one after another.
-ghost use Rattle.std.specs.Prelude.{IfOk, ◌≡◌, ◌≢◌, ℕ, ◌+◌, ◌<◌, ◌≤◌, ◌^◌, [], length, true, false};
+ghost use Rattle.std.specs.Prelude.{IfErr, IfOk, ◌≡◌, ◌≢◌, ℕ, ◌+◌, ◌<◌, ◌≤◌, ◌^◌, [], length, true, false};
 ghost use Rattle.bt_demand.specs.Find.{begun};
 ghost use Rattle.bt_demand.specs.Flushing.{Still};
 ghost use Rattle.bt_demand.specs.Next.{todo};
@@ -9,6 +9,7 @@ ghost use Rattle.bt_ledger.specs.Ledger.{items_in, number_in, slot_at, part_tree
 ghost use Rattle.bt_ledger.specs.declared.slot.Slot.TheVariants.{Given};
 ghost use Rattle.bt_moves.specs.Moves.{Delivered, SlotStays, OutStays};
 ghost use Rattle.bt_moves.specs.Resting.{Resting, AtRest, Delivering, Unripe};
+ghost use Rattle.bt_sound.specs.Counting.{capped};
 ghost use Rattle.bt_sound.specs.Transactions.{Derived, given_open};
 
 use crate::floor::Floor;
@@ -129,7 +130,8 @@ impl<I: Intake, K: Sink, A: Answerer, C: Clock, D: Derive> Floor<I, K, A, C, D> 
         }
     }
 
-    /// Settles what became of a transaction that is out: its parts, or that there was no memory for them.
+    /// Settles what became of a transaction that is out: its parts, or that there was no memory for them. Items are refused
+    /// for want of memory in the second case alone, and then all are.
     pub fn settle(&mut self, slot: u32, items: u64, routes: Result<Routes, NoMemory>)
         requires resting { Resting self.old.ledger }
         requires within { slot < length self.old.ledger.slots }
@@ -143,7 +145,9 @@ impl<I: Intake, K: Sink, A: Answerer, C: Clock, D: Derive> Floor<I, K, A, C, D> 
         ensures resting { Resting self.new.ledger }
         ensures delivered { Delivered slot self.old.ledger self.new.ledger }
         ensures slots { length self.new.ledger.slots ≡ length self.old.ledger.slots }
-        ensures outside { self.new.outside ≡ self.old.outside }
+        ensures kept { IfOk routes (λ _. self.new.outside ≡ self.old.outside) }
+        ensures refused { IfErr routes (λ _. self.new.outside ≡ record self.old.outside { refused_memory = capped (self.old.outside.refused_memory + items) }) }
+        ensures ending { self.new.outside.ending ≡ self.old.outside.ending }
     {
         match routes {
             Ok(routes) => self.deliver_routes(slot, routes),

@@ -138,7 +138,7 @@ impl<I: Intake, K: Sink, A: Answerer, C: Clock, D: Derive> Floor<I, K, A, C, D> 
     }
 
     /// A law of the floor: in each demand later holds have greater numbers, and the pool has an entry for each hold of a part.
-    pub(crate) fn in_order(&self)
+    pub fn in_order(&self)
         ensures order { (s p : ℕ) → InOrder (part_tree self.now.ledger s p) }
         ensures wide { 64 ≤ self.now.ledger.entries }
         ensures book { Booked self.now.ledger }

@@ -1,5 +1,5 @@
 //! Taking a transaction, and refusing one for want of memory.
-ghost use Rattle.std.specs.Prelude.{◌≡◌, ◌<◌, length, Some, None, IfOk, IfErr, List};
+ghost use Rattle.std.specs.Prelude.{◌≡◌, ◌+◌, ◌<◌, ◌^◌, length, Some, None, IfOk, IfErr, List};
 ghost use Rattle.bt_floor.specs.Calls.{Takes, Ends};
 ghost use Rattle.bt_ledger.specs.Calls.{IsOut};
 ghost use Rattle.bt_ledger.specs.Ledger.{items_in, slot_at, with_slot, opened};
@@ -7,6 +7,7 @@ ghost use Rattle.bt_ledger.specs.declared.slot.Slot.TheVariants.{Free, Out};
 ghost use Rattle.bt_ports.specs.Intake.{stop_of};
 ghost use Rattle.bt_ports.specs.declared.parts.AnswerCall.{AnswerCall};
 ghost use Rattle.bt_sound.specs.Answers.{RefusedAll, RefusedOne};
+ghost use Rattle.bt_sound.specs.Counting.{capped};
 ghost use Rattle.bt_sound.specs.Course.{ending_of};
 
 use crate::floor::Floor;
@@ -65,7 +66,7 @@ impl<I: Intake, K: Sink, A: Answerer, C: Clock, D: Derive> Floor<I, K, A, C, D> 
         requires out { IsOut (slot_at self.old.ledger slot) }
         requires items { items ≡ items_in (slot_at self.old.ledger slot) }
         ensures ledger { self.new.ledger ≡ with_slot self.old.ledger slot Free }
-        ensures outside { self.new.outside ≡ self.old.outside }
+        ensures refused { self.new.outside ≡ record self.old.outside { refused_memory = capped (self.old.outside.refused_memory + items) } }
     {
         let number = self.ledger.number(slot);
         refuse_items(&mut self.answerer, &mut self.counts, number, items);
@@ -111,8 +112,10 @@ fn refuse_item<A: Answerer>(answerer: &mut A, counts: &mut Counts, number: u64, 
 
 /// Refuses so many items of a transaction in order, for want of memory.
 fn refuse_items<A: Answerer>(answerer: &mut A, counts: &mut Counts, number: u64, items: u64)
-    ensures { (added : List AnswerCall) × RefusedAll ⟦<A as Answerer>⟧ answerer.old answerer.new counts.old counts.new number items added }
+    ensures refuses { (added : List AnswerCall) × RefusedAll ⟦<A as Answerer>⟧ answerer.old answerer.new counts.old counts.new number items added }
+    ensures small { counts.old.refused_memory < 2 ^ 64 }
 {
+    let _refused = counts.refused_memory;
     for item in 0..items {
         refuse_item(answerer, counts, number, item);
     }

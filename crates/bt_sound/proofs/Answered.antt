@@ -1,63 +1,31 @@
 -- An answer and a close keep a floor sound.
-use Rattle.std.proofs.Common.{◌≡◌, ◌≢◌, ℕ, zero, suc, ◌+◌, ◌-◌, ◌<◌, ◌≤◌, ◌^◌, Bool, true, false, cond, eqb, ltb, leb, not, ◌&&◌, List, [], ◌∷◌, ◌++◌, length, get_or, set, ◌⊎◌, inl, inr, arith, refl, sym, ap, ◌∙◌, subst, eq-eqb, Option, Some, None, MatchOption, IsTrue, get_or-set_same, get_or-set_other, length-set}
+use Rattle.std.proofs.Common.{◌≡◌, ◌≢◌, ℕ, zero, suc, ◌+◌, ◌<◌, ◌≤◌, Bool, true, false, eqb, not, ◌&&◌, List, [], ◌∷◌, ◌++◌, length, get_or, set, inl, inr, arith, refl, sym, ap, ◌∙◌, subst, eq-eqb, Some, IsTrue, get_or-set_same, get_or-set_other, length-set}
 use Rattle.std.specs.List.{AllByRecursion}
-use Rattle.std.specs.Prelude.{replicate, slice_get}
-use Rattle.std.proofs.lemmas.Bool.Decides.{eqb_tells, leb_tells}
-use Rattle.std.proofs.lemmas.Bool.{eqb-true}
-use Rattle.std.proofs.lemmas.List.{length-replicate}
-use Rattle.bt_chains.specs.declared.Entry.{Entry}
-use Rattle.bt_demand.specs.Find.{begun}
-use Rattle.bt_demand.specs.Holding.{one_if, is_open}
-use Rattle.bt_demand.specs.Outcomes.{outcome, accepted, refused, lost}
-use Rattle.bt_demand.specs.Parts.{Part, PartFits, PartsFit}
-use Rattle.bt_demand.specs.Reached.{IsNext}
-use Rattle.bt_demand.specs.Reasons.{least, refused_leaves}
-use Rattle.bt_demand.specs.Recorded.{untried}
-use Rattle.bt_demand.specs.Steps.{settle, settle_each, settles, wait, release, state_for}
-use Rattle.bt_demand.specs.Tree.{Tree, Trees, leaf, drop as nothing, reject, all, first, hold, none, more}
+use Rattle.std.proofs.lemmas.Bool.Decides.{eqb_tells}
+use Rattle.bt_demand.specs.Holding.{one_if}
+use Rattle.bt_demand.specs.Parts.{PartsFit}
 use Rattle.bt_demand.specs.Untouched.{Untouched}
-use Rattle.bt_demand.specs.WellFormed.{WellFormed, leaves, sinks, Differ}
 use Rattle.bt_demand.specs.declared.derive.Derive as Derive
-use Rattle.bt_demand.specs.declared.demand.State.{State}
-use Rattle.bt_demand.specs.declared.demand.State.TheVariants.{Untried as Fresh, Good, Bad}
-use Rattle.bt_demand.proofs.Untouched.{release-untouched, unbegun-untouched}
-use Rattle.bt_leaves.specs.EachLeaf.{EachLeaf, EachLeafIn}
-use Rattle.bt_leaves.proofs.Kept.{leaves_untried, fresh_by, fresh_untried, untried_release, by_release}
-use Rattle.bt_leaves.proofs.NextLeaf.{SinkIs, SinksAre, to_put_by, to_put_stands, stands_sink}
-use Rattle.bt_ledger.specs.Book.{Booked, IsFront}
-use Rattle.bt_ledger.specs.Calls.{IsOut, Fits, Released as ReleasedTo}
-use Rattle.bt_ledger.specs.Due.{LeastDue, IsDue, times, counts_for, open_parts, unanswered}
-use Rattle.bt_ledger.specs.Ledger.{Ledger, slot_at, part_tree, parts_in, number_in, moment_in, answered_in, items_in, is_free, is_given, open_in, with_part, with_slot, chain_at, IsPart, IsGiven}
-use Rattle.bt_ledger.specs.Open.{Open, tree_of, from_of, part_at, with_tree, no_part}
-use Rattle.bt_ledger.specs.Verdicts.{is_lost_from, lost_from, refusal, verdict_by, verdict_of, why_by, why_of, why_unless}
+use Rattle.bt_ledger.specs.Due.{IsDue, unanswered}
+use Rattle.bt_ledger.specs.Ledger.{Ledger, slot_at, parts_in, number_in, moment_in, answered_in, items_in, is_free, is_given, open_in, with_slot, IsGiven}
+use Rattle.bt_ledger.specs.Open.{Open}
+use Rattle.bt_ledger.specs.Verdicts.{verdict_of, why_of}
 use Rattle.bt_ledger.specs.declared.slot.Slot.{Slot}
-use Rattle.bt_ledger.specs.declared.slot.Slot.TheVariants.{Free, Out, Given}
-use Rattle.bt_ledger.proofs.Counts.{open_parts-set}
-use Rattle.bt_ledger.proofs.Room.{part_cases}
-use Rattle.bt_ledger.proofs.Slots.{given_taken, part_taken}
+use Rattle.bt_ledger.specs.declared.slot.Slot.TheVariants.{Free, Given}
+use Rattle.bt_ledger.proofs.Slots.{given_taken}
 use Rattle.bt_moves.specs.Moves.{is_out}
-use Rattle.bt_moves.proofs.Keeping.{given_true}
-use Rattle.bt_moves.proofs.Moves.{front_cases, front_none}
-use Rattle.bt_moves.proofs.Popping.{front_open}
-use Rattle.bt_ports.specs.Clock.{reading_at}
-use Rattle.bt_ports.specs.Faults.{one_more, last_count}
 use Rattle.bt_ports.specs.declared.outside.Answerer as Answerer
 use Rattle.bt_ports.specs.declared.outside.Clock as Clock
 use Rattle.bt_ports.specs.declared.outside.Intake as Intake
 use Rattle.bt_ports.specs.declared.outside.Sink as Sink
 use Rattle.bt_ports.specs.declared.parts.AnswerCall.{AnswerCall}
-use Rattle.bt_ports.specs.declared.parts.Cause.TheVariants.{NoMemory}
-use Rattle.bt_ports.specs.declared.parts.Record.{Record}
-use Rattle.bt_ports.specs.declared.parts.Txn.{Txn}
-use Rattle.bt_ports.specs.declared.parts.Verdict.{Verdict}
-use Rattle.bt_ports.specs.declared.parts.Verdict.TheVariants.{Refused}
-use Rattle.bt_sound.specs.Answers.{is_for, calls_for, Called, Says, PastSays, IsRefusal, RefusalsFrom}
+use Rattle.bt_sound.specs.Answers.{is_for, calls_for, Called, Says, PastSays}
 use Rattle.bt_sound.specs.Counting.{answer_with, AnswersCounted, ReleasesSum}
-use Rattle.bt_sound.proofs.Counting.{counted_more, summed_answer}
-use Rattle.bt_sound.specs.Records.{is_of, records_of, LeafTold, Told, PutOne, PutAt}
-use Rattle.bt_sound.specs.Sound.{here, in_slots, in_past, SaysTrue, Unknown, Sound}
-use Rattle.bt_sound.specs.Transactions.{IsTransaction, IsTaken, Taken, IsPlanned, Planned, Shaped, WasTaken, untried_parts, given_open, refused_open}
-use Rattle.bt_sound.specs.View.{FloorView, Outside, Past}
+use Rattle.bt_sound.proofs.Counting.{counted_more, summed_answer, answer_memory}
+use Rattle.bt_sound.specs.Records.{Told}
+use Rattle.bt_sound.specs.Sound.{here, SaysTrue, Unknown, Sound}
+use Rattle.bt_sound.specs.Transactions.{Taken, Planned, Shaped, untried_parts}
+use Rattle.bt_sound.specs.View.{FloorView, Past}
 use Rattle.bt_sound.specs.declared.counts.Counts.{Counts}
 use Rattle.bt_sound.proofs.Lists.{each_map, each_both, each_snoc}
 use Rattle.bt_sound.proofs.Placing.{in_slots_set, apart_by, placed_range, gone_by}
@@ -98,6 +66,7 @@ sound_close gi gk ga gc gd f closed s h w g done =
       course = h.course;
       counted = h.counted;
       summed = h.summed;
+      refusals = h.refusals;
       expected = over_slot (λ y. Taken gi gc f.outside (number_in y) (moment_in y) (items_in y)) is_out f.ledger s Free w refl h.expected;
       untouched = over_trees (λ v. Untouched v) f.ledger s Free w (λ b. tt) h.untouched;
       past_answered = (done, h.past_answered);
@@ -212,6 +181,7 @@ sound_answer gi gk ga gc gd f closed s i c u n h w due en ei ev ey told calls cn
       course = h.course;
       counted = λ tells. subst (λ v. AnswersCounted v n) (sym (calls tells)) (subst (λ k. AnswersCounted (ga.calls f.answerer ++ c ∷ []) k) (sym cn) (counted_more (ga.calls f.answerer) c f.counts (h.counted (told tells))));
       summed = subst (λ k. ReleasesSum f.releases k) (sym cn) (summed_answer f.releases c.verdict c.failed f.counts h.summed);
+      refusals = h.refusals ∙ answer_memory (open_in (slot_at f.ledger s)) i c.verdict c.failed f.counts n ev cn;
       expected = over_slot (λ y. Taken gi gc f.outside (number_in y) (moment_in y) (items_in y)) is_out f.ledger s (Given (record (open_in (slot_at f.ledger s)) { answered = set (answered_in (slot_at f.ledger s)) i true })) w.0 refl h.expected;
       untouched = over_trees (λ v. Untouched v) f.ledger s (Given (record (open_in (slot_at f.ledger s)) { answered = set (answered_in (slot_at f.ledger s)) i true })) w.0 (λ b. h.untouched s b) h.untouched;
       past_answered = h.past_answered;
@@ -246,3 +216,8 @@ sound_answer gi gk ga gc gd f closed s i c u n h w due en ei ev ey told calls cn
           ));
       no_other = λ tells. subst (λ v. AllByRecursion (λ x. (1 ≤ x.number) × (x.number ≤ f.outside.taken)) v) (sym (calls tells)) (each_snoc (λ x. (1 ≤ x.number) × (x.number ≤ f.outside.taken)) (ga.calls f.answerer) c (h.no_other (told tells)) (let a = range.0 in let b = range.1 in (omega arith, omega arith)));
     }
+
+-- what the outside says of refusals is what the counts say
+pub sound_memory : {I K A C D : Type 0} (gi : Intake.Ghosts I) (gk : Sink.Ghosts K) (ga : Answerer.Ghosts A) (gc : Clock.Ghosts C) (gd : Derive.Ghosts D) (f : FloorView I K A C D) (closed : List Past) (k : ℕ) → f.outside.refused_memory ≡ k → Sound gi gk ga gc gd f closed
+    → Sound gi gk ga gc gd (record f { outside = record f.outside { refused_memory = k } }) closed
+sound_memory gi gk ga gc gd f closed k e h = subst (λ q. Sound gi gk ga gc gd (record f { outside = record f.outside { refused_memory = q } }) closed) e h

@@ -1,9 +1,14 @@
 -- The counts stay the numbers of calls and of releases.
-use Rattle.std.proofs.Common.{◌≡◌, ℕ, zero, suc, ◌+◌, ◌<◌, Bool, true, false, cond, not, List, [], ◌∷◌, ◌++◌, length, get_or, set, arith, refl, sym, ap, ◌∙◌, subst}
+use Rattle.std.proofs.Common.{◌≡◌, ℕ, zero, suc, ◌+◌, ◌<◌, Bool, true, false, cond, not, List, [], ◌∷◌, ◌++◌, length, get_or, set, arith, refl, sym, ap, ◌∙◌, Option, Some, None, eqb}
 use Rattle.std.specs.List.{AllByRecursion, count_by, sum}
-use Rattle.std.specs.Prelude.{min, replicate, ◌*◌}
+use Rattle.std.specs.Prelude.{replicate, ◌*◌}
 use Rattle.std.proofs.lemmas.List.Folds.{sum_by-replicate}
 use Rattle.std.proofs.lemmas.List.Sums.{sum_by-set, sum_by_push}
+use Rattle.bt_demand.specs.Parts.{Part}
+use Rattle.bt_demand.specs.Reasons.{least, refused_leaves}
+use Rattle.bt_ledger.specs.Due.{open_parts}
+use Rattle.bt_ledger.specs.Open.{Open, tree_of}
+use Rattle.bt_ledger.specs.Verdicts.{lost_from, refusal, verdict_by, verdict_of}
 use Rattle.bt_ledger.specs.declared.reason.Reason.{Reason}
 use Rattle.bt_ledger.specs.declared.reason.Reason.TheVariants as reason
 use Rattle.bt_ports.specs.Faults.{one_more, last_count}
@@ -11,7 +16,7 @@ use Rattle.bt_ports.specs.declared.parts.AnswerCall.{AnswerCall}
 use Rattle.bt_ports.specs.declared.parts.Cause.TheVariants.{SinkFault, Rejected, NoMemory}
 use Rattle.bt_ports.specs.declared.parts.Verdict.{Verdict}
 use Rattle.bt_ports.specs.declared.parts.Verdict.TheVariants.{Ack, Refused}
-use Rattle.bt_sound.specs.Counting.{verdict_with, answer_with, count_with, acks, wants_memory, capped, AnswersCounted, BelowLast, by_reason, ReleasesSum, no_counts}
+use Rattle.bt_sound.specs.Counting.{answer_with, count_with, acks, wants_memory, capped, AnswersCounted, ReleasesSum, no_counts}
 use Rattle.bt_sound.specs.declared.counts.Counts.{Counts}
 
 count_snoc : {T : Type 0} (p : T → Bool) (xs : List T) (x : T) → count_by p (xs ++ x ∷ []) ≡ count_by p xs + cond {A = ℕ} (p x) 1 0
@@ -123,3 +128,35 @@ counted_none = record { acked = refl; refused = refl; refused_memory = refl; ans
 
 pub summed_none : (n : ℕ) → ReleasesSum (replicate n 0) no_counts
 summed_none n = λ _. sum_by-replicate (λ x. x) n 0 ∙ (let e : n * 0 ≡ 0 = omega arith in e)
+
+-- a release refuses nothing
+pub release_memory : (why : Reason) (k : Counts) → (count_with why k).refused_memory ≡ k.refused_memory
+release_memory reason.Count k = refl
+release_memory reason.Bytes k = refl
+release_memory reason.Check k = refl
+release_memory reason.Period k = refl
+release_memory reason.Stall k = refl
+release_memory reason.Room k = refl
+release_memory reason.End k = refl
+
+some_is : (v : Verdict) (b : Bool) (w : Verdict) → Some v ≡ cond b (Some w) None → v ≡ w
+some_is v true w e = cc
+some_is v false w e = cc
+
+refusal_memory : (p : ℕ) (o : Option ℕ) → wants_memory (refusal p o) ≡ false
+refusal_memory p None = refl
+refusal_memory p (Some l) = refl
+
+by_memory : (ps : List Part) (o : Option ℕ) → wants_memory (verdict_by ps o) ≡ false
+by_memory ps None = refl
+by_memory ps (Some p) = refusal_memory p (least (refused_leaves (tree_of ps p)))
+
+-- no verdict of parts is a want of memory
+pub answer_memory : (o : Open) (i : ℕ) (v : Verdict) (b : Bool) (k n : Counts) → Some v ≡ verdict_of o i → n ≡ answer_with v b k → k.refused_memory ≡ n.refused_memory
+answer_memory o i v b k n e f =
+    let same = some_is v (eqb (open_parts i o.parts) 0) (verdict_by o.parts (lost_from i 0 o.parts)) e in
+    let no : wants_memory v ≡ false = ap wants_memory same ∙ by_memory o.parts (lost_from i 0 o.parts) in
+    sym (ap (λ (x : Counts). x.refused_memory) f ∙ (memory_with v b k ∙ ap (λ x. cond x (one_more k.refused_memory) k.refused_memory) no))
+
+pub refusal_counts : (v : Verdict) (b : Bool) (k : Counts) → v ≡ Refused NoMemory → (answer_with v b k).refused_memory ≡ one_more k.refused_memory
+refusal_counts v b k e = memory_with v b k ∙ ap (λ x. cond (wants_memory x) (one_more k.refused_memory) k.refused_memory) e

@@ -1,5 +1,5 @@
 -- The intake gives one batch more, or says how the run ends.
-use Rattle.std.proofs.Common.{◌≡◌, ◌≢◌, ℕ, zero, suc, ◌+◌, ◌-◌, ◌<◌, ◌≤◌, ◌^◌, ◌⊎◌, inl, inr, arith, refl, sym, ap, ◌∙◌, subst, List, length, IsTrue, Option, Some, None}
+use Rattle.std.proofs.Common.{◌≡◌, ℕ, ◌+◌, ◌-◌, ◌<◌, ◌≤◌, ◌^◌, ◌⊎◌, inl, inr, arith, refl, sym, ap, ◌∙◌, subst, List, length, IsTrue, Option, Some, None}
 use Rattle.std.specs.Prelude.{slice_get}
 use Rattle.std.proofs.lemmas.Bool.Decides.{leb_tells}
 use Rattle.bt_demand.specs.declared.derive.Derive as Derive
@@ -14,7 +14,7 @@ use Rattle.bt_ports.specs.declared.parts.Next.{Next}
 use Rattle.bt_ports.specs.declared.parts.Next.TheVariants as next
 use Rattle.bt_ports.specs.declared.parts.Txn.{Txn}
 use Rattle.bt_sound.specs.Course.{Course, ending_of, GaveAll, IsStop, FaultCounted}
-use Rattle.bt_sound.specs.Transactions.{IsTransaction, IsTaken, Taken, IsPlanned, Planned}
+use Rattle.bt_sound.specs.Transactions.{IsTransaction, Taken, Planned}
 use Rattle.bt_sound.specs.View.{Outside}
 use Rattle.bt_sound.specs.declared.counts.Ending.{Ending}
 
@@ -28,32 +28,32 @@ pub record Later {I C D : Type 0} (gi : Intake.Ghosts I) (gc : Clock.Ghosts C) (
   pub readings : IsTrue (gc.tells c) → gc.readings c ≡ gc.readings f.clock
   pub made : IsTrue (gc.tells c) → gc.made c < last_count → (gc.made f.clock < last_count) × (gc.made c - k ≡ gc.made f.clock - f.taken)
 
-is_later : {I C D : Type 0} (gi : Intake.Ghosts I) (gc : Clock.Ghosts C) (f : Outside I C D) (i : I) (c : C) (k : ℕ) (e : Option Ending) (t : Txn) → Later gi gc f i c k → IsTrue (gi.tells i) → IsTrue (gc.tells c) → gc.made c < last_count
-    → IsTransaction gi gc f t → IsTransaction gi gc (record f { intake = i; clock = c; taken = k; ending = e }) t
-is_later gi gc f i c k e t l x y z h =
+is_later : {I C D : Type 0} (gi : Intake.Ghosts I) (gc : Clock.Ghosts C) (f : Outside I C D) (i : I) (c : C) (k : ℕ) (e : Option Ending) (r : ℕ) (t : Txn) → Later gi gc f i c k → IsTrue (gi.tells i) → IsTrue (gc.tells c) → gc.made c < last_count
+    → IsTransaction gi gc f t → IsTransaction gi gc (record f { intake = i; clock = c; taken = k; ending = e; refused_memory = r }) t
+is_later gi gc f i c k e r t l x y z h =
     let b = l.batches x in
     let p = l.before x in
-    let r = l.readings y in
+    let reads = l.readings y in
     let q = (l.made y z).1 in
     record {
       some = h.some;
       taken = (let a = h.taken in let m = l.more in omega arith);
       batch = rw (b, p) h.batch;
-      moment = rw (r, q) h.moment;
+      moment = rw (reads, q) h.moment;
     }
 
-pub taken_later : {I C D : Type 0} (gi : Intake.Ghosts I) (gc : Clock.Ghosts C) (f : Outside I C D) (i : I) (c : C) (k : ℕ) (e : Option Ending) (number moment items : ℕ) → Later gi gc f i c k
-    → Taken gi gc f number moment items → Taken gi gc (record f { intake = i; clock = c; taken = k; ending = e }) number moment items
-taken_later gi gc f i c k e number moment items l h = λ x y z.
+pub taken_later : {I C D : Type 0} (gi : Intake.Ghosts I) (gc : Clock.Ghosts C) (f : Outside I C D) (i : I) (c : C) (k : ℕ) (e : Option Ending) (r : ℕ) (number moment items : ℕ) → Later gi gc f i c k
+    → Taken gi gc f number moment items → Taken gi gc (record f { intake = i; clock = c; taken = k; ending = e; refused_memory = r }) number moment items
+taken_later gi gc f i c k e r number moment items l h = λ x y z.
     let w = h (l.told x) (l.ticks y) (l.made y z).0 in
-    (w.0, record { is = is_later gi gc f i c k e w.0 l x y z w.1.is; number = w.1.number; moment = w.1.moment; items = w.1.items })
+    (w.0, record { is = is_later gi gc f i c k e r w.0 l x y z w.1.is; number = w.1.number; moment = w.1.moment; items = w.1.items })
 
-pub planned_later : {I C D : Type 0} (gi : Intake.Ghosts I) (gc : Clock.Ghosts C) (gd : Derive.Ghosts D) (f : Outside I C D) (i : I) (c : C) (k : ℕ) (e : Option Ending) (o : Open) → Later gi gc f i c k
-    → Planned gi gc gd f o → Planned gi gc gd (record f { intake = i; clock = c; taken = k; ending = e }) o
-planned_later gi gc gd f i c k e o l h = λ x y z.
+pub planned_later : {I C D : Type 0} (gi : Intake.Ghosts I) (gc : Clock.Ghosts C) (gd : Derive.Ghosts D) (f : Outside I C D) (i : I) (c : C) (k : ℕ) (e : Option Ending) (r : ℕ) (o : Open) → Later gi gc f i c k
+    → Planned gi gc gd f o → Planned gi gc gd (record f { intake = i; clock = c; taken = k; ending = e; refused_memory = r }) o
+planned_later gi gc gd f i c k e r o l h = λ x y z.
     let w = h (l.told x) (l.ticks y) (l.made y z).0 in
     let a = w.1.taken in
-    (w.0, record { taken = record { is = is_later gi gc f i c k e w.0 l x y z a.is; number = a.number; moment = a.moment; items = a.items }; parts = w.1.parts })
+    (w.0, record { taken = record { is = is_later gi gc f i c k e r w.0 l x y z a.is; number = a.number; moment = a.moment; items = a.items }; parts = w.1.parts })
 
 below_last : (a b : ℕ) → b ≡ one_more a → b < last_count → (b ≡ a + 1) × (a < last_count)
 below_last a b e h = ((let k = e in omega arith), (let k = e in omega arith))
@@ -197,7 +197,7 @@ course_stop gi gc f i r s h = record {
 }
 
 -- nothing was taken yet
-pub course_make : {I C D : Type 0} (gi : Intake.Ghosts I) (gc : Clock.Ghosts C) (plan : D) (i : I) (c : C) → gi.stopped i ≡ None → gi.left i < 2 ^ 56 → Course gi gc (record { plan = plan; intake = i; clock = c; taken = 0; ending = None })
+pub course_make : {I C D : Type 0} (gi : Intake.Ghosts I) (gc : Clock.Ghosts C) (plan : D) (i : I) (c : C) → gi.stopped i ≡ None → gi.left i < 2 ^ 56 → Course gi gc (record { plan = plan; intake = i; clock = c; taken = 0; ending = None; refused_memory = 0 })
 course_make gi gc plan i c e b = record {
   given = λ x. omega arith;
   read = λ x. inl (omega arith);
@@ -208,3 +208,9 @@ course_make gi gc plan i c e b = record {
   stop = λ _. tt;
   fault = tt;
 }
+
+pub same_later : {I C D : Type 0} (gi : Intake.Ghosts I) (gc : Clock.Ghosts C) (f : Outside I C D) → Later gi gc f f.intake f.clock f.taken
+same_later gi gc f = record { more = omega arith; told = λ x. x; batches = λ x. refl; before = λ x. refl; ticks = λ y. y; readings = λ y. refl; made = λ y z. (z, refl) }
+
+pub course_same : {I C D : Type 0} (gi : Intake.Ghosts I) (gc : Clock.Ghosts C) (f : Outside I C D) (r : ℕ) → Course gi gc f → Course gi gc (record f { refused_memory = r })
+course_same gi gc f r h = record { given = h.given; read = h.read; bounded = h.bounded; ended = h.ended; goes = h.goes; whole = h.whole; stop = h.stop; fault = h.fault }

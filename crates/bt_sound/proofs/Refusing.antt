@@ -1,73 +1,42 @@
 -- A transaction that is out is refused for want of memory, item by item.
-use Rattle.std.proofs.Common.{◌≡◌, ◌≢◌, ℕ, zero, suc, ◌+◌, ◌-◌, ◌<◌, ◌≤◌, ◌^◌, Bool, true, false, cond, eqb, ltb, leb, not, ◌&&◌, List, [], ◌∷◌, ◌++◌, length, get_or, set, ◌⊎◌, inl, inr, arith, refl, sym, ap, ◌∙◌, subst, eq-eqb, Option, Some, None, MatchOption, IsTrue, get_or-set_same, get_or-set_other, length-set}
+use Rattle.std.proofs.Common.{◌≡◌, ◌≢◌, ℕ, zero, suc, ◌+◌, ◌<◌, ◌≤◌, true, false, eqb, not, ◌&&◌, List, [], ◌∷◌, ◌++◌, length, get_or, inl, inr, arith, refl, sym, ap, ◌∙◌, subst, eq-eqb, IsTrue}
 use Rattle.std.specs.List.{AllByRecursion}
-use Rattle.std.specs.Prelude.{replicate, slice_get}
-use Rattle.std.proofs.lemmas.Bool.Decides.{eqb_tells, leb_tells}
-use Rattle.std.proofs.lemmas.Bool.{eqb-true}
+use Rattle.std.specs.Prelude.{replicate}
+use Rattle.std.proofs.lemmas.Bool.Decides.{eqb_tells}
 use Rattle.std.proofs.lemmas.List.{length-replicate}
-use Rattle.bt_chains.specs.declared.Entry.{Entry}
-use Rattle.bt_demand.specs.Find.{begun}
-use Rattle.bt_demand.specs.Holding.{one_if, is_open}
-use Rattle.bt_demand.specs.Outcomes.{outcome, accepted, refused, lost}
-use Rattle.bt_demand.specs.Parts.{Part, PartFits, PartsFit}
-use Rattle.bt_demand.specs.Reached.{IsNext}
-use Rattle.bt_demand.specs.Reasons.{least, refused_leaves}
-use Rattle.bt_demand.specs.Recorded.{untried}
-use Rattle.bt_demand.specs.Steps.{settle, settle_each, settles, wait, release, state_for}
-use Rattle.bt_demand.specs.Tree.{Tree, Trees, leaf, drop as nothing, reject, all, first, hold, none, more}
+use Rattle.bt_demand.specs.Holding.{one_if}
 use Rattle.bt_demand.specs.Untouched.{Untouched}
-use Rattle.bt_demand.specs.WellFormed.{WellFormed, leaves, sinks, Differ}
 use Rattle.bt_demand.specs.declared.derive.Derive as Derive
-use Rattle.bt_demand.specs.declared.demand.State.{State}
-use Rattle.bt_demand.specs.declared.demand.State.TheVariants.{Untried as Fresh, Good, Bad}
-use Rattle.bt_demand.proofs.Untouched.{release-untouched, unbegun-untouched}
-use Rattle.bt_leaves.specs.EachLeaf.{EachLeaf, EachLeafIn}
-use Rattle.bt_leaves.proofs.Kept.{leaves_untried, fresh_by, fresh_untried, untried_release, by_release}
-use Rattle.bt_leaves.proofs.NextLeaf.{SinkIs, SinksAre, to_put_by, to_put_stands, stands_sink}
-use Rattle.bt_ledger.specs.Book.{Booked, IsFront}
-use Rattle.bt_ledger.specs.Calls.{IsOut, Fits, Released as ReleasedTo}
-use Rattle.bt_ledger.specs.Due.{LeastDue, IsDue, times, counts_for, open_parts, unanswered}
-use Rattle.bt_ledger.specs.Ledger.{Ledger, slot_at, part_tree, parts_in, number_in, moment_in, answered_in, items_in, is_free, is_given, open_in, with_part, with_slot, chain_at, IsPart, IsGiven}
-use Rattle.bt_ledger.specs.Open.{Open, tree_of, from_of, part_at, with_tree, no_part}
-use Rattle.bt_ledger.specs.Verdicts.{is_lost_from, lost_from, refusal, verdict_by, verdict_of, why_by, why_of, why_unless}
-use Rattle.bt_ledger.specs.declared.slot.Slot.{Slot}
-use Rattle.bt_ledger.specs.declared.slot.Slot.TheVariants.{Free, Out, Given}
-use Rattle.bt_ledger.proofs.Counts.{open_parts-set}
-use Rattle.bt_ledger.proofs.Room.{part_cases}
-use Rattle.bt_ledger.proofs.Slots.{given_taken, part_taken}
+use Rattle.bt_ledger.specs.Calls.{IsOut}
+use Rattle.bt_ledger.specs.Due.{unanswered}
+use Rattle.bt_ledger.specs.Ledger.{slot_at, number_in, moment_in, items_in, is_free, is_given, open_in, with_slot}
+use Rattle.bt_ledger.specs.Open.{Open}
+use Rattle.bt_ledger.specs.declared.slot.Slot.TheVariants.{Free}
+use Rattle.bt_ledger.proofs.Slots.{given_taken}
 use Rattle.bt_moves.specs.Moves.{is_out}
-use Rattle.bt_moves.proofs.Keeping.{given_true}
-use Rattle.bt_moves.proofs.Moves.{front_cases, front_none}
-use Rattle.bt_moves.proofs.Popping.{front_open}
-use Rattle.bt_ports.specs.Clock.{reading_at}
-use Rattle.bt_ports.specs.Faults.{one_more, last_count}
+use Rattle.bt_ports.specs.Faults.{last_count}
 use Rattle.bt_ports.specs.declared.outside.Answerer as Answerer
 use Rattle.bt_ports.specs.declared.outside.Clock as Clock
 use Rattle.bt_ports.specs.declared.outside.Intake as Intake
 use Rattle.bt_ports.specs.declared.outside.Sink as Sink
 use Rattle.bt_ports.specs.declared.parts.AnswerCall.{AnswerCall}
 use Rattle.bt_ports.specs.declared.parts.Cause.TheVariants.{NoMemory}
-use Rattle.bt_ports.specs.declared.parts.Record.{Record}
-use Rattle.bt_ports.specs.declared.parts.Txn.{Txn}
-use Rattle.bt_ports.specs.declared.parts.Verdict.{Verdict}
 use Rattle.bt_ports.specs.declared.parts.Verdict.TheVariants.{Refused}
 use Rattle.bt_sound.specs.Answers.{is_for, calls_for, Called, Says, PastSays, IsRefusal, RefusalsFrom}
 use Rattle.bt_sound.specs.Counting.{AnswersCounted, ReleasesSum}
-use Rattle.bt_sound.specs.Course.{Course}
-use Rattle.bt_sound.proofs.Course.{Later, TakesNext, Stops, next_later, next_is, course_next, stop_later, course_stop, taken_later, planned_later}
-use Rattle.bt_ports.specs.declared.parts.Next.{Next}
-use Rattle.bt_sound.specs.Records.{is_of, records_of, LeafTold, Told, PutOne, PutAt}
-use Rattle.bt_sound.specs.Sound.{here, in_slots, in_past, SaysTrue, Unknown, Sound}
-use Rattle.bt_sound.specs.Transactions.{IsTransaction, IsTaken, Taken, IsPlanned, Planned, Shaped, WasTaken, untried_parts, given_open, refused_open}
-use Rattle.bt_sound.specs.View.{FloorView, Outside, Past}
+use Rattle.bt_sound.proofs.Course.{same_later, course_same, taken_later, planned_later}
+use Rattle.bt_sound.specs.Records.{Told}
+use Rattle.bt_sound.specs.Sound.{here, SaysTrue, Sound}
+use Rattle.bt_sound.specs.Transactions.{Taken, Planned, Shaped, WasTaken, refused_open}
+use Rattle.bt_sound.specs.View.{FloorView, Past}
 use Rattle.bt_sound.specs.declared.counts.Counts.{Counts}
-use Rattle.bt_sound.proofs.Answered.{over_close, for_other, and_no}
+use Rattle.bt_sound.proofs.Answered.{for_other, and_no}
 use Rattle.bt_sound.proofs.Lists.{each_map, each_both}
 use Rattle.bt_sound.proofs.Placing.{in_slots_set, apart_by, gone_by}
-use Rattle.bt_sound.proofs.Slots.{close_cases, over_slot, over_trees, yes_no}
+use Rattle.bt_sound.proofs.Slots.{close_cases, over_slot, over_trees}
 use Rattle.bt_sound.specs.Answers.{RefusedAll, RefusedOne}
-use Rattle.bt_sound.specs.Counting.{answer_with, counts_after}
-use Rattle.bt_sound.proofs.Counting.{counted_more, summed_answer}
+use Rattle.bt_sound.specs.Counting.{answer_with, capped, counts_after}
+use Rattle.bt_sound.proofs.Counting.{counted_more, summed_answer, refusal_counts}
 use Rattle.bt_sound.proofs.Lists.{each_append}
 use Rattle.bt_sound.proofs.Placing.{placed_range}
 use Rattle.bt_sound.proofs.Taking.{out_answers, out_taken, out_is, out_given, over_out, each_none}
@@ -127,7 +96,7 @@ called_others cs ds o n d r h = λ i. (let a = calls_app o.number i cs ds in let
 
 pub sound_refuse : {I K A C D : Type 0} (gi : Intake.Ghosts I) (gk : Sink.Ghosts K) (ga : Answerer.Ghosts A) (gc : Clock.Ghosts C) (gd : Derive.Ghosts D) (f : FloorView I K A C D) (closed : List Past) (s : ℕ) (u : A) (k : Counts) (ds : List AnswerCall)
     → Sound gi gk ga gc gd f closed → s < length f.ledger.slots → IsOut (slot_at f.ledger s) → RefusedAll ga f.answerer u f.counts k (number_in (slot_at f.ledger s)) (items_in (slot_at f.ledger s)) ds
-    → Sound gi gk ga gc gd (record f { ledger = with_slot f.ledger s Free; answerer = u; counts = k }) (record { state = refused_open (slot_at f.ledger s); memory = true } ∷ closed)
+    → Sound gi gk ga gc gd (record f { ledger = with_slot f.ledger s Free; answerer = u; counts = k; outside = record f.outside { refused_memory = k.refused_memory } }) (record { state = refused_open (slot_at f.ledger s); memory = true } ∷ closed)
 sound_refuse gi gk ga gc gd f closed s u k ds h w out r =
     let n = number_in (slot_at f.ledger s) in
     let taken = out_taken (slot_at f.ledger s) out in
@@ -136,22 +105,25 @@ sound_refuse gi gk ga gc gd f closed s u k ds h w out r =
     let apart : (a : ℕ) → a ≢ s → is_free (slot_at f.ledger a) ≡ false → number_in (slot_at f.ledger a) ≢ number_in (slot_at f.ledger s) = λ a d y e. d (sym (apart_by f.ledger.slots (number_in (slot_at f.ledger s)) _ _ s a (h.placed (number_in (slot_at f.ledger s))) taken y refl e)) in
     let gone = gone_by f.ledger.slots closed (number_in (slot_at f.ledger s)) _ s (h.placed (number_in (slot_at f.ledger s))) taken refl in
     let before : IsTrue (ga.tells f.answerer) → (i : ℕ) → calls_for (number_in (slot_at f.ledger s)) i (ga.calls f.answerer) ≡ 0 = λ t i. h.called t s taken i ∙ ap one_if (ap (λ bs. get_or bs i false) (out_answers (slot_at f.ledger s) out)) in
+    let later : (n m i : ℕ) → Taken gi gc f.outside n m i → Taken gi gc (record f.outside { refused_memory = k.refused_memory }) n m i = λ n m i x. taken_later gi gc f.outside f.outside.intake f.outside.clock f.outside.taken f.outside.ending k.refused_memory n m i (same_later gi gc f.outside) x in
+    let plan : (o : Open) → Planned gi gc gd f.outside o → Planned gi gc gd (record f.outside { refused_memory = k.refused_memory }) o = λ o x. planned_later gi gc gd f.outside f.outside.intake f.outside.clock f.outside.taken f.outside.ending k.refused_memory o (same_later gi gc f.outside) x in
     record {
       placed = λ m. (let a = in_slots_set m f.ledger.slots s Free w in
           let b : here m (slot_at f.ledger s) ≡ one_if (eqb (number_in (slot_at f.ledger s)) m) = ap (λ v. one_if (not v && eqb (number_in (slot_at f.ledger s)) m)) taken in
           let c = h.placed m in omega arith);
-      course = h.course;
-      expected = over_slot (λ y. Taken gi gc f.outside (number_in y) (moment_in y) (items_in y)) is_out f.ledger s Free w refl h.expected;
-      planned = over_out (λ x. Planned gi gc gd f.outside x) is_given f.ledger s Free w refl h.planned;
-      shaped = over_out (λ x. Shaped gd f.outside x) is_given f.ledger s Free w refl h.shaped;
+      course = course_same gi gc f.outside k.refused_memory h.course;
+      expected = over_slot (λ y. Taken gi gc (record f.outside { refused_memory = k.refused_memory }) (number_in y) (moment_in y) (items_in y)) is_out f.ledger s Free w refl (λ a e. later _ _ _ (h.expected a e));
+      planned = over_out (λ x. Planned gi gc gd (record f.outside { refused_memory = k.refused_memory }) x) is_given f.ledger s Free w refl (λ a e. plan _ (h.planned a e));
+      shaped = over_out (λ x. Shaped gd (record f.outside { refused_memory = k.refused_memory }) x) is_given f.ledger s Free w refl h.shaped;
       past_taken = (
         record {
           planned = λ e. (let z : true ≡ false = e in cc);
           shaped = λ e. (let z : true ≡ false = e in cc);
-          refused = λ _. subst (λ q. Taken gi gc f.outside (number_in (slot_at f.ledger s)) (moment_in (slot_at f.ledger s)) q) (sym (length-replicate (items_in (slot_at f.ledger s)) true)) (h.expected s (out_is (slot_at f.ledger s) out));
+          refused = λ _. subst (λ q. Taken gi gc (record f.outside { refused_memory = k.refused_memory }) (number_in (slot_at f.ledger s)) (moment_in (slot_at f.ledger s)) q) (sym (length-replicate (items_in (slot_at f.ledger s)) true)) (later _ _ _ (h.expected s (out_is (slot_at f.ledger s) out)));
           without = λ _. refl;
         },
-        h.past_taken,
+        each_map (λ p. WasTaken gi gc gd f.outside p) (λ p. WasTaken gi gc gd (record f.outside { refused_memory = k.refused_memory }) p) closed
+            (λ p y. record { planned = λ e. plan _ (y.planned e); shaped = y.shaped; refused = λ e. later _ _ _ (y.refused e); without = y.without }) h.past_taken,
       );
       past_answered = (all_answered (items_in (slot_at f.ledger s)), h.past_answered);
       untouched = over_trees (λ v. Untouched v) f.ledger s Free w (λ b. tt) h.untouched;
@@ -200,6 +172,7 @@ sound_refuse gi gk ga gc gd f closed s u k ds h w out r =
           (λ c x. (let a = x.0 in let b = range.0 in let d = range.1 in (omega arith, omega arith))) (refusals_all ds (number_in (slot_at f.ledger s)) 0 r.each)));
       counted = λ t. subst (λ cs. AnswersCounted cs k) (sym (r.calls t)) (subst (λ q. AnswersCounted (ga.calls f.answerer ++ ds) q) (sym r.counted) (counted_all ds (ga.calls f.answerer) f.counts (h.counted (r.told t))));
       summed = subst (λ q. ReleasesSum f.releases q) (sym r.counted) (summed_all ds f.releases f.counts h.summed);
+      refusals = refl;
       policies = h.policies;
       sinks = h.sinks;
       releases = h.releases;
@@ -207,6 +180,14 @@ sound_refuse gi gk ga gc gd f closed s u k ds h w out r =
       wide = h.wide;
       entries = h.entries;
     }
+
+-- so many refusals are counted
+pub refusals_counted : (ds : List AnswerCall) (n i : ℕ) (k : Counts) → k.refused_memory ≤ last_count → RefusalsFrom n i ds → (counts_after ds k).refused_memory ≡ capped (k.refused_memory + length ds)
+refusals_counted [] n i k w h = omega arith
+refusals_counted (d ∷ ds) n i k w h =
+    let e = refusal_counts d.verdict d.failed k h.0.verdict in
+    let a = refusals_counted ds n (i + 1) (answer_with d.verdict d.failed k) (omega arith) h.1 in
+    omega arith
 
 refusals_snoc : (cs : List AnswerCall) (n i : ℕ) (c : AnswerCall) → RefusalsFrom n i cs → IsRefusal n (i + length cs) c → RefusalsFrom n i (cs ++ c ∷ [])
 refusals_snoc [] n i c h k = (subst (λ j. IsRefusal n j c) (let e : i + 0 ≡ i = omega arith in e) k, tt)

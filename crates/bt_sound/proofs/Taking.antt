@@ -1,68 +1,42 @@
 -- A transaction is taken, is given its parts, or is refused for want of memory.
-use Rattle.std.proofs.Common.{◌≡◌, ◌≢◌, ℕ, zero, suc, ◌+◌, ◌-◌, ◌<◌, ◌≤◌, ◌^◌, Bool, true, false, cond, eqb, ltb, leb, not, ◌&&◌, List, [], ◌∷◌, ◌++◌, length, get_or, set, ◌⊎◌, inl, inr, arith, refl, sym, ap, ◌∙◌, subst, eq-eqb, Option, Some, None, MatchOption, IsTrue, get_or-set_same, get_or-set_other, length-set}
+use Rattle.std.proofs.Common.{◌≡◌, ◌≢◌, ℕ, zero, suc, ◌+◌, ◌<◌, ◌≤◌, ◌^◌, Bool, true, false, eqb, ltb, leb, not, ◌&&◌, List, [], ◌∷◌, length, get_or, inl, inr, arith, refl, sym, ap, ◌∙◌, subst, eq-eqb, Some, None, IsTrue}
 use Rattle.std.specs.List.{AllByRecursion}
 use Rattle.std.proofs.lemmas.List.Elements.{recursion_from_All}
-use Rattle.std.specs.Prelude.{replicate, slice_get}
+use Rattle.std.specs.Prelude.{replicate}
 use Rattle.std.proofs.lemmas.Bool.Decides.{eqb_tells, leb_tells}
-use Rattle.std.proofs.lemmas.Bool.{eqb-true}
 use Rattle.std.proofs.lemmas.List.{length-replicate}
-use Rattle.bt_chains.specs.declared.Entry.{Entry}
 use Rattle.bt_demand.specs.Find.{begun}
-use Rattle.bt_demand.specs.Holding.{one_if, is_open}
-use Rattle.bt_demand.specs.Outcomes.{outcome, accepted, refused, lost}
-use Rattle.bt_demand.specs.Parts.{Part, PartFits, PartsFit}
-use Rattle.bt_demand.specs.Reached.{IsNext}
-use Rattle.bt_demand.specs.Reasons.{least, refused_leaves}
-use Rattle.bt_demand.specs.Recorded.{untried}
-use Rattle.bt_demand.specs.Steps.{settle, settle_each, settles, wait, release, state_for}
-use Rattle.bt_demand.specs.Tree.{Tree, Trees, leaf, drop as nothing, reject, all, first, hold, none, more}
+use Rattle.bt_demand.specs.Holding.{one_if}
+use Rattle.bt_demand.specs.Parts.{Part, PartsFit}
 use Rattle.bt_demand.specs.Untouched.{Untouched}
-use Rattle.bt_demand.specs.WellFormed.{WellFormed, leaves, sinks, Differ}
+use Rattle.bt_demand.specs.WellFormed.{sinks}
 use Rattle.bt_demand.specs.declared.derive.Derive as Derive
-use Rattle.bt_demand.specs.declared.demand.State.{State}
-use Rattle.bt_demand.specs.declared.demand.State.TheVariants.{Untried as Fresh, Good, Bad}
-use Rattle.bt_demand.proofs.Untouched.{release-untouched, unbegun-untouched}
-use Rattle.bt_leaves.specs.EachLeaf.{EachLeaf, EachLeafIn}
-use Rattle.bt_leaves.proofs.Kept.{leaves_untried, fresh_by, fresh_untried, untried_release, by_release}
-use Rattle.bt_leaves.proofs.NextLeaf.{SinkIs, SinksAre, to_put_by, to_put_stands, stands_sink}
-use Rattle.bt_ledger.specs.Book.{Booked, IsFront}
-use Rattle.bt_ledger.specs.Calls.{IsOut, Fits, Released as ReleasedTo}
-use Rattle.bt_ledger.specs.Due.{LeastDue, IsDue, times, counts_for, open_parts, unanswered}
-use Rattle.bt_ledger.specs.Ledger.{Ledger, slot_at, part_tree, parts_in, number_in, moment_in, answered_in, items_in, is_free, is_given, open_in, with_part, with_slot, chain_at, IsPart, IsGiven}
-use Rattle.bt_ledger.specs.Open.{Open, tree_of, from_of, part_at, with_tree, no_part}
-use Rattle.bt_ledger.specs.Verdicts.{is_lost_from, lost_from, refusal, verdict_by, verdict_of, why_by, why_of, why_unless}
+use Rattle.bt_demand.proofs.Untouched.{unbegun-untouched}
+use Rattle.bt_leaves.proofs.Kept.{fresh_by, fresh_untried}
+use Rattle.bt_ledger.specs.Calls.{IsOut, Fits}
+use Rattle.bt_ledger.specs.Due.{unanswered}
+use Rattle.bt_ledger.specs.Ledger.{Ledger, slot_at, parts_in, number_in, moment_in, answered_in, items_in, is_free, is_given, open_in, with_slot}
+use Rattle.bt_ledger.specs.Open.{Open, tree_of}
 use Rattle.bt_ledger.specs.declared.slot.Slot.{Slot}
 use Rattle.bt_ledger.specs.declared.slot.Slot.TheVariants.{Free, Out, Given}
-use Rattle.bt_ledger.proofs.Counts.{open_parts-set}
-use Rattle.bt_ledger.proofs.Room.{part_cases}
-use Rattle.bt_ledger.proofs.Slots.{given_taken, part_taken}
+use Rattle.bt_ledger.proofs.Slots.{given_taken}
 use Rattle.bt_moves.specs.Moves.{is_out}
-use Rattle.bt_moves.proofs.Keeping.{given_true}
-use Rattle.bt_moves.proofs.Moves.{front_cases, front_none}
-use Rattle.bt_moves.proofs.Popping.{front_open}
-use Rattle.bt_ports.specs.Clock.{reading_at}
-use Rattle.bt_ports.specs.Faults.{one_more, last_count}
 use Rattle.bt_ports.specs.declared.outside.Answerer as Answerer
 use Rattle.bt_ports.specs.declared.outside.Clock as Clock
 use Rattle.bt_ports.specs.declared.outside.Intake as Intake
 use Rattle.bt_ports.specs.declared.outside.Sink as Sink
 use Rattle.bt_ports.specs.declared.parts.AnswerCall.{AnswerCall}
-use Rattle.bt_ports.specs.declared.parts.Cause.TheVariants.{NoMemory}
-use Rattle.bt_ports.specs.declared.parts.Record.{Record}
 use Rattle.bt_ports.specs.declared.parts.Txn.{Txn}
-use Rattle.bt_ports.specs.declared.parts.Verdict.{Verdict}
-use Rattle.bt_ports.specs.declared.parts.Verdict.TheVariants.{Refused}
-use Rattle.bt_sound.specs.Answers.{is_for, calls_for, Called, Says, PastSays, IsRefusal, RefusalsFrom}
+use Rattle.bt_sound.specs.Answers.{is_for, calls_for, Called, Says}
 use Rattle.bt_sound.specs.Counting.{AnswersCounted, ReleasesSum}
 use Rattle.bt_sound.specs.Course.{Course}
-use Rattle.bt_sound.proofs.Course.{Later, TakesNext, Stops, next_later, next_is, course_next, stop_later, course_stop, taken_later, planned_later}
+use Rattle.bt_sound.proofs.Course.{TakesNext, Stops, next_later, next_is, course_next, stop_later, course_stop, taken_later, planned_later}
 use Rattle.bt_ports.specs.declared.parts.Next.{Next}
-use Rattle.bt_sound.specs.Records.{is_of, records_of, LeafTold, Told, PutOne, PutAt}
-use Rattle.bt_sound.specs.Sound.{here, in_slots, in_past, SaysTrue, Unknown, Sound}
-use Rattle.bt_sound.specs.Transactions.{IsTransaction, IsTaken, Taken, IsPlanned, Planned, Derived, Shaped, WasTaken, untried_parts, given_open, refused_open}
-use Rattle.bt_sound.specs.View.{FloorView, Outside, Past}
-use Rattle.bt_sound.specs.declared.counts.Counts.{Counts}
-use Rattle.bt_sound.proofs.Answered.{over_close, for_other, and_no}
+use Rattle.bt_sound.specs.Records.{records_of, LeafTold, Told}
+use Rattle.bt_sound.specs.Sound.{here, in_slots, SaysTrue, Unknown, Sound}
+use Rattle.bt_sound.specs.Transactions.{Taken, Planned, Derived, Shaped, WasTaken, untried_parts, given_open}
+use Rattle.bt_sound.specs.View.{FloorView, Past}
+use Rattle.bt_sound.proofs.Answered.{for_other, and_no}
 use Rattle.bt_sound.proofs.Lists.{each_map, each_both}
 use Rattle.bt_sound.proofs.Placing.{in_slots_set, apart_by, gone_by}
 use Rattle.bt_sound.proofs.Slots.{close_cases, over_slot, over_trees, yes_no}
@@ -177,7 +151,7 @@ pub sound_take : {I K A C D : Type 0} (gi : Intake.Ghosts I) (gk : Sink.Ghosts K
 sound_take gi gk ga gc gd f closed s i c t h w free goes next =
     let x : Slot = Out (f.outside.taken + 1) t.moment (length t.items.list) in
     let l = next_later gi gc f.outside i c t next in
-    let later : (o : Open) → Planned gi gc gd f.outside o → Planned gi gc gd (record f.outside { intake = i; clock = c; taken = f.outside.taken + 1 }) o = λ o p. planned_later gi gc gd f.outside i c (f.outside.taken + 1) f.outside.ending o l p in
+    let later : (o : Open) → Planned gi gc gd f.outside o → Planned gi gc gd (record f.outside { intake = i; clock = c; taken = f.outside.taken + 1 }) o = λ o p. planned_later gi gc gd f.outside i c (f.outside.taken + 1) f.outside.ending f.outside.refused_memory o l p in
     record {
       placed = λ j. (let a = in_slots_set j f.ledger.slots s (Out (f.outside.taken + 1) t.moment (length t.items.list)) w in
           let b : here j (slot_at f.ledger s) ≡ 0 = ap (here j) free in
@@ -192,18 +166,19 @@ sound_take gi gk ga gc gd f closed s i c t h w free goes next =
       course = course_next gi gc f.outside i c t h.course goes next;
       counted = h.counted;
       summed = h.summed;
+      refusals = h.refusals;
       expected = λ a e. elim (close_cases f.ledger s a (Out (f.outside.taken + 1) t.moment (length t.items.list)) w) [
         | inl j ↦ subst (λ y. Taken gi gc (record f.outside { intake = i; clock = c; taken = f.outside.taken + 1 }) (number_in y) (moment_in y) (items_in y)) (sym j.1)
             (λ p q r. (t, record { is = next_is gi gc f.outside i c t h.course next p q r; number = next.number; moment = refl; items = refl }))
         | inr j ↦ subst (λ y. Taken gi gc (record f.outside { intake = i; clock = c; taken = f.outside.taken + 1 }) (number_in y) (moment_in y) (items_in y)) (sym j.1)
-            (taken_later gi gc f.outside i c (f.outside.taken + 1) f.outside.ending _ _ _ l (h.expected a (ap is_out (sym j.1) ∙ e)))
+            (taken_later gi gc f.outside i c (f.outside.taken + 1) f.outside.ending f.outside.refused_memory _ _ _ l (h.expected a (ap is_out (sym j.1) ∙ e)))
       ];
       untouched = over_trees (λ v. Untouched v) f.ledger s (Out (f.outside.taken + 1) t.moment (length t.items.list)) w (λ b. tt) h.untouched;
       past_answered = h.past_answered;
       shaped = over_out (λ y. Shaped gd f.outside y) is_given f.ledger s (Out (f.outside.taken + 1) t.moment (length t.items.list)) w refl h.shaped;
       planned = over_out (λ y. Planned gi gc gd (record f.outside { intake = i; clock = c; taken = f.outside.taken + 1 }) y) is_given f.ledger s (Out (f.outside.taken + 1) t.moment (length t.items.list)) w refl (λ a e. later (open_in (slot_at f.ledger a)) (h.planned a e));
       past_taken = each_map (λ p. WasTaken gi gc gd f.outside p) (λ p. WasTaken gi gc gd (record f.outside { intake = i; clock = c; taken = f.outside.taken + 1 }) p) closed
-          (λ p y. record { planned = λ e. later p.state (y.planned e); shaped = y.shaped; refused = λ e. taken_later gi gc f.outside i c (f.outside.taken + 1) f.outside.ending _ _ _ l (y.refused e); without = y.without }) h.past_taken;
+          (λ p y. record { planned = λ e. later p.state (y.planned e); shaped = y.shaped; refused = λ e. taken_later gi gc f.outside i c (f.outside.taken + 1) f.outside.ending f.outside.refused_memory _ _ _ l (y.refused e); without = y.without }) h.past_taken;
       told = λ d. over_out (λ y. Told gk f.sinks d y) is_given f.ledger s (Out (f.outside.taken + 1) t.moment (length t.items.list)) w refl (h.told d);
       past_told = h.past_told;
       unwritten = λ d q b k j v y. h.unwritten d q b k j v (
@@ -232,11 +207,11 @@ sound_stop gi gk ga gc gd f closed i r s h =
     record {
       placed = h.placed;
       course = course_stop gi gc f.outside i r s h.course;
-      expected = λ a e. taken_later gi gc f.outside i f.outside.clock f.outside.taken (Some s.ending) _ _ _ l (h.expected a e);
-      planned = λ a e. planned_later gi gc gd f.outside i f.outside.clock f.outside.taken (Some s.ending) _ l (h.planned a e);
+      expected = λ a e. taken_later gi gc f.outside i f.outside.clock f.outside.taken (Some s.ending) f.outside.refused_memory _ _ _ l (h.expected a e);
+      planned = λ a e. planned_later gi gc gd f.outside i f.outside.clock f.outside.taken (Some s.ending) f.outside.refused_memory _ l (h.planned a e);
       shaped = h.shaped;
       past_taken = each_map (λ p. WasTaken gi gc gd f.outside p) (λ p. WasTaken gi gc gd (record f.outside { intake = i; ending = Some s.ending }) p) closed
-          (λ p y. record { planned = λ e. planned_later gi gc gd f.outside i f.outside.clock f.outside.taken (Some s.ending) _ l (y.planned e); shaped = y.shaped; refused = λ e. taken_later gi gc f.outside i f.outside.clock f.outside.taken (Some s.ending) _ _ _ l (y.refused e); without = y.without }) h.past_taken;
+          (λ p y. record { planned = λ e. planned_later gi gc gd f.outside i f.outside.clock f.outside.taken (Some s.ending) f.outside.refused_memory _ l (y.planned e); shaped = y.shaped; refused = λ e. taken_later gi gc f.outside i f.outside.clock f.outside.taken (Some s.ending) f.outside.refused_memory _ _ _ l (y.refused e); without = y.without }) h.past_taken;
       past_answered = h.past_answered;
       untouched = h.untouched;
       told = h.told;
@@ -248,6 +223,7 @@ sound_stop gi gk ga gc gd f closed i r s h =
       no_other = h.no_other;
       counted = h.counted;
       summed = h.summed;
+      refusals = h.refusals;
       policies = h.policies;
       sinks = h.sinks;
       releases = h.releases;
@@ -291,6 +267,7 @@ sound_give gi gk ga gc gd f closed s ps h w out fit derived =
       course = h.course;
       counted = h.counted;
       summed = h.summed;
+      refusals = h.refusals;
       expected = over_slot (λ y. Taken gi gc f.outside (number_in y) (moment_in y) (items_in y)) is_out f.ledger s (Given (given_open (slot_at f.ledger s) ps)) w refl h.expected;
       untouched = over_trees (λ v. Untouched v) f.ledger s (Given (given_open (slot_at f.ledger s) ps)) w (λ b. unbegun-untouched (tree_of ps b) (fresh_at _ _ _ ps b fit)) h.untouched;
       past_answered = h.past_answered;
@@ -332,9 +309,9 @@ none_ranged n = elim (leb_tells n 0) [
 -- a floor on which nothing was taken
 pub sound_make : {I K A C D : Type 0} (gi : Intake.Ghosts I) (gk : Sink.Ghosts K) (ga : Answerer.Ghosts A) (gc : Clock.Ghosts C) (gd : Derive.Ghosts D) (f : FloorView I K A C D) (w : ℕ)
     → f.ledger.slots ≡ replicate w Free → f.ledger.policies ≡ gd.policies f.outside.plan → length f.sinks ≡ gd.sinks f.outside.plan → length f.releases ≡ length f.ledger.policies → length f.releases < 2 ^ 32 → 64 ≤ f.ledger.entries
-    → f.entries ≡ f.ledger.entries → f.outside.taken ≡ 0 → Course gi gc f.outside → AnswersCounted [] f.counts → ReleasesSum f.releases f.counts → ((d : K) (k : ℕ) → k < length f.sinks → IsTrue (gk.tells (get_or f.sinks k d)) → (gk.accepted (get_or f.sinks k d) ≡ []) × (gk.refused (get_or f.sinks k d) ≡ [])) → (IsTrue (ga.tells f.answerer) → ga.calls f.answerer ≡ [])
+    → f.entries ≡ f.ledger.entries → f.outside.taken ≡ 0 → Course gi gc f.outside → AnswersCounted [] f.counts → ReleasesSum f.releases f.counts → f.outside.refused_memory ≡ f.counts.refused_memory → ((d : K) (k : ℕ) → k < length f.sinks → IsTrue (gk.tells (get_or f.sinks k d)) → (gk.accepted (get_or f.sinks k d) ≡ []) × (gk.refused (get_or f.sinks k d) ≡ [])) → (IsTrue (ga.tells f.answerer) → ga.calls f.answerer ≡ [])
     → Sound gi gk ga gc gd f []
-sound_make gi gk ga gc gd f w es ep ek er few wide en et course uncounted summed unwritten unanswered =
+sound_make gi gk ga gc gd f w es ep ek er few wide en et course uncounted summed refusals unwritten unanswered =
     let free : (s : ℕ) → slot_at f.ledger s ≡ Free = λ s. ap (λ xs. get_or xs s Free) es ∙ free_at w s in
     let none_at : (s : ℕ) → is_given (slot_at f.ledger s) ≡ true → ⊥ = λ s e. (let z : is_given Free ≡ true = ap is_given (sym (free s)) ∙ e in cc) in
     record {
@@ -348,6 +325,7 @@ sound_make gi gk ga gc gd f w es ep ek er few wide en et course uncounted summed
       course = course;
       counted = λ t. subst (λ cs. AnswersCounted cs f.counts) (sym (unanswered t)) uncounted;
       summed = summed;
+      refusals = refusals;
       expected = λ s e. (let z : is_out Free ≡ true = ap is_out (sym (free s)) ∙ e in cc);
       shaped = λ s e. absurd (none_at s e);
       planned = λ s e. absurd (none_at s e);

@@ -1,5 +1,5 @@
 -- The records that were put to sinks, by transaction, part and leaf.
-use Rattle.std.specs.Prelude.{◌≡◌, ◌≢◌, ℕ, ◌+◌, ◌≤◌, Bool, true, false, cond, eqb, ◌&&◌, List, [], ◌∷◌, ◌++◌, length, get_or, IsTrue}
+use Rattle.std.specs.Prelude.{◌≡◌, ◌≢◌, ℕ, ◌+◌, ◌≤◌, Bool, false, cond, eqb, ◌&&◌, List, [], ◌∷◌, ◌++◌, length, get_or, IsTrue}
 use Rattle.bt_demand.specs.Holding.{one_if}
 use Rattle.bt_demand.specs.Outcomes.{accepted, refused}
 use Rattle.bt_demand.specs.declared.demand.State.{State}

@@ -1,5 +1,5 @@
 -- What is true of a floor between any two moves.
-use Rattle.std.specs.Prelude.{◌≡◌, ◌≢◌, ℕ, ◌+◌, ◌<◌, ◌≤◌, ◌^◌, true, false, eqb, ltb, leb, not, ◌&&◌, ◌⊎◌, List, [], ◌∷◌, length, IsTrue}
+use Rattle.std.specs.Prelude.{◌≡◌, ◌≢◌, ℕ, ◌+◌, ◌<◌, ◌≤◌, ◌^◌, true, false, eqb, ltb, leb, not, ◌&&◌, List, [], ◌∷◌, length, IsTrue}
 use Rattle.std.specs.List.{AllByRecursion}
 use Rattle.bt_demand.specs.Holding.{one_if}
 use Rattle.bt_demand.specs.Untouched.{Untouched}
@@ -9,7 +9,6 @@ use Rattle.bt_ledger.specs.Due.{unanswered}
 use Rattle.bt_ledger.specs.Ledger.{Ledger, slot_at, part_tree, number_in, moment_in, items_in, is_free, is_given, open_in}
 use Rattle.bt_ledger.specs.declared.slot.Slot.{Slot}
 use Rattle.bt_moves.specs.Moves.{is_out}
-use Rattle.bt_ports.specs.Faults.{last_count}
 use Rattle.bt_ports.specs.declared.outside.Answerer as Answerer
 use Rattle.bt_ports.specs.declared.outside.Clock as Clock
 use Rattle.bt_ports.specs.declared.outside.Intake as Intake
@@ -74,6 +73,7 @@ pub record Sound {I K A C D : Type 0} (gi : Intake.Ghosts I) (gk : Sink.Ghosts K
   -- the counts are the numbers of answers and of releases
   pub counted : IsTrue (ga.tells f.answerer) → AnswersCounted (ga.calls f.answerer) f.counts
   pub summed : ReleasesSum f.releases f.counts
+  pub refusals : f.outside.refused_memory ≡ f.counts.refused_memory
   -- holds and sinks are the plan's, and the pool has at least as many entries as a part may have holds
   pub policies : f.ledger.policies ≡ gd.policies f.outside.plan
   pub sinks : length f.sinks ≡ gd.sinks f.outside.plan

@@ -5,13 +5,15 @@ use Rattle.bt_ledger.specs.Open.{Open}
 use Rattle.bt_sound.specs.declared.counts.Counts.{Counts}
 use Rattle.bt_sound.specs.declared.counts.Ending.{Ending}
 
--- the plan, the intake, the clock, how many transactions were taken, and how the intake ended
+-- the plan, the intake, the clock, how many transactions were taken, how the intake ended, and how many items were refused
+-- for want of memory
 pub record Outside (I C D : Type 0) : Type 0 where
   pub plan : D
   pub intake : I
   pub clock : C
   pub taken : ℕ
   pub ending : Option Ending
+  pub refused_memory : ℕ
 
 -- `releases` has the number of releases of each hold, and `entries` how many entries the pool has
 pub record FloorView (I K A C D : Type 0) : Type 0 where

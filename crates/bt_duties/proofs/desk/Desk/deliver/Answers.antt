@@ -24,11 +24,4 @@ invariant_of-self g c =
     standing_delivered (record { floor = c.self.inside.floor; duties = c.self.inside.duties.items; window = c.self.inside.window; finished = c.self.inside.finished }) c.settle.new.self c.args.duty c.self.invariant
     (subst (λ (v : DeskView _ _ _ _ _). c.args.duty < length v.duties) (sym c.self.view_is) c.requires.duty)
     (subst (λ (v : DeskView _ _ _ _ _). (duty_at v.duties c.args.duty).number ≢ 0) (sym c.self.view_is) c.requires.out)
-    c.settle.ensures.resting (subst (λ (x : Duty). Delivered x.slot c.self.inside.floor.ledger c.settle.new.self.ledger) c.entry-items.ensures c.settle.ensures.delivered) c.settle.ensures.slots c.settle.ensures.outside
-
-pub returns-clause-stands : goal.returns-clause-stands
-returns-clause-stands g c =
-    standing_delivered (record { floor = c.self.inside.floor; duties = c.self.inside.duties.items; window = c.self.inside.window; finished = c.self.inside.finished }) c.settle.new.self c.args.duty c.self.invariant
-    (subst (λ (v : DeskView _ _ _ _ _). c.args.duty < length v.duties) (sym c.self.view_is) c.requires.duty)
-    (subst (λ (v : DeskView _ _ _ _ _). (duty_at v.duties c.args.duty).number ≢ 0) (sym c.self.view_is) c.requires.out)
-    c.settle.ensures.resting (subst (λ (x : Duty). Delivered x.slot c.self.inside.floor.ledger c.settle.new.self.ledger) c.entry-items.ensures c.settle.ensures.delivered) c.settle.ensures.slots c.settle.ensures.outside
+    c.settle.ensures.resting (subst (λ (x : Duty). Delivered x.slot c.self.inside.floor.ledger c.settle.new.self.ledger) c.entry-items.ensures c.settle.ensures.delivered) c.settle.ensures.slots c.settle.ensures.ending

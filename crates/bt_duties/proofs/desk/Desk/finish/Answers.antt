@@ -10,10 +10,3 @@ invariant_of-self g c =
     c.flush_all.ensures.resting c.flush_all.ensures.outs c.flush_all.ensures.empty c.flush_all.ensures.slots c.flush_all.ensures.outside
     (subst (λ (v : DeskView _ _ _ _ _). AllIdle v.duties) (sym c.self.view_is) c.requires.idle) c.flush_all.ensures.closed true
     (λ _. subst (λ (v : DeskView _ _ _ _ _). IsSome v.floor.outside.ending) (sym c.self.view_is) c.requires.ended)
-
-pub returns-clause-stands : goal.returns-clause-stands
-returns-clause-stands g c =
-    standing_flushed (record { floor = c.self.inside.floor; duties = c.self.inside.duties.items; window = c.self.inside.window; finished = c.self.inside.finished }) c.flush_all.new.self c.self.invariant
-    c.flush_all.ensures.resting c.flush_all.ensures.outs c.flush_all.ensures.empty c.flush_all.ensures.slots c.flush_all.ensures.outside
-    (subst (λ (v : DeskView _ _ _ _ _). AllIdle v.duties) (sym c.self.view_is) c.requires.idle) c.flush_all.ensures.closed true
-    (λ _. subst (λ (v : DeskView _ _ _ _ _). IsSome v.floor.outside.ending) (sym c.self.view_is) c.requires.ended)

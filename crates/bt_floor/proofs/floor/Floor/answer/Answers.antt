@@ -8,7 +8,8 @@ use Rattle.bt_ledger.specs.declared.slot.Slot.TheVariants.{Free}
 use Rattle.bt_moves.specs.Moves.{Answering}
 use Rattle.bt_sound.specs.View.{FloorView}
 use Rattle.bt_moves.proofs.Moves.{answering_with}
-use Rattle.bt_sound.proofs.Answered.{sound_answer}
+use Rattle.bt_sound.proofs.Answered.{sound_answer, sound_memory}
+use Rattle.bt_sound.proofs.Counting.{answer_memory}
 use Rattle.bt_sound.specs.Counting.{answer_with}
 use Rattle.bt_floor.proofs.floor.Floor.answer.Goals as goal
 
@@ -17,7 +18,13 @@ invariant_of-self g c =
     let l = ap (λ (v : FloorView _ _ _ _ _). v.ledger) c.self.view_is in
     let given : IsGiven c.self.inside.ledger c.args.slot = subst (λ k. IsGiven k c.args.slot) (sym l) c.requires.given in
     let due : LeastDue (open_in (slot_at c.self.inside.ledger c.args.slot)) (Some c.args.item) = subst (λ k. LeastDue (open_in (slot_at k c.args.slot)) (Some c.args.item)) (sym l) c.requires.due in
-    rw c.answered.ensures (c.self.invariant.0, sound_answer _ _ _ _ _ _ c.self.invariant.0 c.args.slot c.args.item _ _ _ c.self.invariant.1 given due.0 c.number-number.ensures refl c.verdict_on-verdict.ensures c.why-why.ensures c.answer.ensures.told c.answer.ensures.adds (subst (λ b. c.count_answer.new.counts ≡ answer_with c.verdict_on-verdict.result b c.self.inside.counts) c.is_err-failed.ensures.value c.count_answer.ensures))
+    let counted = subst (λ b. c.count_answer.new.counts ≡ answer_with c.verdict_on-verdict.result b c.self.inside.counts) c.is_err-failed.ensures.value c.count_answer.ensures in
+    let same = answer_memory (open_in (slot_at c.self.inside.ledger c.args.slot)) c.args.item c.verdict_on-verdict.result _ c.self.inside.counts c.count_answer.new.counts c.verdict_on-verdict.ensures counted in
+    rw c.answered.ensures (
+      c.self.invariant.0,
+      sound_memory _ _ _ _ _ _ _ c.count_answer.new.counts.refused_memory same
+          (sound_answer _ _ _ _ _ _ c.self.invariant.0 c.args.slot c.args.item _ _ _ c.self.invariant.1 given due.0 c.number-number.ensures refl c.verdict_on-verdict.ensures c.why-why.ensures c.answer.ensures.told c.answer.ensures.adds counted),
+    )
 
 pub returns-clause-answering : goal.returns-clause-answering
 returns-clause-answering g c =
@@ -37,3 +44,9 @@ returns-clause-falls g c =
     let h = ap (λ x. unanswered (answered_in x)) (get_or-set_same c.self.inside.ledger.slots c.args.slot (Given (record (open_in (slot_at c.self.inside.ledger c.args.slot)) { answered = set (answered_in (slot_at c.self.inside.ledger c.args.slot)) c.args.item true })) Free given.0) in
     let d = ap (λ k. unanswered (answered_in (slot_at k c.args.slot))) l in
     omega arith
+
+pub returns-clause-outside : goal.returns-clause-outside
+returns-clause-outside g c =
+    let counted = subst (λ b. c.count_answer.new.counts ≡ answer_with c.verdict_on-verdict.result b c.self.inside.counts) c.is_err-failed.ensures.value c.count_answer.ensures in
+    let same = answer_memory (open_in (slot_at c.self.inside.ledger c.args.slot)) c.args.item c.verdict_on-verdict.result _ c.self.inside.counts c.count_answer.new.counts c.verdict_on-verdict.ensures counted in
+    ap (λ (k : ℕ). record { plan = c.self.inside.plan.value; intake = c.self.inside.intake; clock = c.self.inside.clock; taken = c.self.inside.taken; ending = c.self.inside.ending; refused_memory = k }) (sym same) ∙ ap (λ (v : FloorView _ _ _ _ _). v.outside) c.self.view_is

@@ -1,6 +1,9 @@
 use Rattle.std.proofs.Common.{◌≡◌, ℕ, ◌<◌, ◌≤◌, arith, refl, sym, ap, ◌∙◌, subst, length, set, get_or}
 use Rattle.bt_ledger.specs.Ledger.{Ledger}
 use Rattle.bt_sound.specs.View.{FloorView}
+use Rattle.bt_sound.specs.declared.counts.Counts.{Counts}
+use Rattle.bt_sound.proofs.Answered.{sound_memory}
+use Rattle.bt_sound.proofs.Counting.{release_memory}
 use Rattle.bt_sound.proofs.Popping.{sound_release}
 use Rattle.bt_floor.proofs.floor.Floor.begin_release.Goals as goal
 
@@ -11,4 +14,10 @@ invariant_of-self g c =
     let many = s.releases in
     let e = ap (λ (k : Ledger). length k.policies) l in
     let w : c.args.node < length c.self.inside.releases.items = (let r = c.requires in omega arith) in
-    (c.self.invariant.0, sound_release _ _ _ _ _ _ c.self.invariant.0 c.args.node c.args.why c.count_reason.new.counts _ c.self.invariant.1 w c.count_reason.ensures (c.count_release.ensures.releases ∙ ap (set c.self.inside.releases.items c.args.node) c.count_release.ensures.number))
+    let same = sym (ap (λ (x : Counts). x.refused_memory) c.count_reason.ensures ∙ release_memory c.args.why c.self.inside.counts) in
+    (c.self.invariant.0, sound_memory _ _ _ _ _ _ _ c.count_reason.new.counts.refused_memory same (sound_release _ _ _ _ _ _ c.self.invariant.0 c.args.node c.args.why c.count_reason.new.counts _ c.self.invariant.1 w c.count_reason.ensures (c.count_release.ensures.releases ∙ ap (set c.self.inside.releases.items c.args.node) c.count_release.ensures.number)))
+
+pub returns-clause-outside : goal.returns-clause-outside
+returns-clause-outside g c =
+    let same = sym (ap (λ (x : Counts). x.refused_memory) c.count_reason.ensures ∙ release_memory c.args.why c.self.inside.counts) in
+    ap (λ (k : ℕ). record { plan = c.self.inside.plan.value; intake = c.self.inside.intake; clock = c.self.inside.clock; taken = c.self.inside.taken; ending = c.self.inside.ending; refused_memory = k }) (sym same) ∙ ap (λ (v : FloorView _ _ _ _ _). v.outside) c.self.view_is

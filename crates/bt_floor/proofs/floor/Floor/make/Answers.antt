@@ -6,7 +6,7 @@ use Rattle.bt_floor.specs.Calls.{NothingPut}
 use Rattle.bt_ledger.specs.Ledger.{Ledger}
 use Rattle.bt_sound.specs.Counting.{AnswersCounted, ReleasesSum}
 use Rattle.bt_sound.proofs.Counting.{counted_none, summed_none}
-use Rattle.bt_sound.proofs.Course.{course_make}
+use Rattle.bt_sound.proofs.Course.{course_make, course_same}
 use Rattle.bt_sound.proofs.Taking.{sound_make}
 use Rattle.bt_floor.proofs.floor.Floor.make.Goals as goal
 
@@ -33,9 +33,10 @@ invariant_of-result g c =
           (omega arith)
           (sym entries)
           refl
-          (course_make g.I.Intake g.C.Clock c.args.plan.value c.args.parts.intake c.args.parts.clock c.requires.goes c.requires.bounded)
+          (course_same g.I.Intake g.C.Clock _ c.none.result.refused_memory (course_make g.I.Intake g.C.Clock c.args.plan.value c.args.parts.intake c.args.parts.clock c.requires.goes c.requires.bounded))
           (subst (λ x. AnswersCounted [] x) (sym k) counted_none)
           (subst (λ x. ReleasesSum x c.none.result) (sym r) (subst (λ x. ReleasesSum (replicate (length (g.D.Derive.policies c.deref.result.now)) 0) x) (sym k) (summed_none (length (g.D.Derive.policies c.deref.result.now)))))
+          refl
           (subst (λ ks. NothingPut g.K.Sink ks) (sym s) c.requires.unwritten)
           c.requires.unanswered,
     )

@@ -1,0 +1,4 @@
+pub mod Messages
+pub mod Steps
+pub mod Singles
+pub mod Cases
