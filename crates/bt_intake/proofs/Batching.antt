@@ -13,7 +13,7 @@ use Rattle.bt_intake.specs.declared.batches.Batches.{Batches}
 use Rattle.bt_intake.specs.declared.policy.Policy.{Policy}
 use Rattle.bt_intake.specs.declared.reader.LineReader.{LineReader}
 use Rattle.bt_intake.specs.Batches.{ends, is_off, source_items}
-use Rattle.bt_intake.specs.Gathering.{CutSoFar, BatchesHold, Gathers, GivesBatch, GivesNone, BatchAnswers, BatchSteps, Ends, Added, AddedOpen, AddsLast, Stops, StopsWith, items_of, batches_of, items_given, size_of, rest_or, SaysOf}
+use Rattle.bt_intake.specs.Gathering.{CutSoFar, BatchesHold, Gathers, GivesBatch, GivesNone, BatchAnswers, BatchSteps, Added, AddedOpen, AddsLast, Stops, StopsWith, items_of, batches_of, size_of, rest_or, SaysOf}
 use Rattle.bt_intake.specs.Reader.{ReaderHolds, Goes, GivesLine, AllGiven}
 use Rattle.bt_intake.specs.Sources.{all_tell, told, fault_count}
 use Rattle.bt_intake.specs.Answers.{ReadsLate}

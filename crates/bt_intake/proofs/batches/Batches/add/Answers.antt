@@ -1,4 +1,4 @@
-use Rattle.std.proofs.Common.{◌≡◌, ℕ, ◌+◌, ◌-◌, ◌^◌, min, Bool, List, ◌++◌, ◌∷◌, [], length, length-append, refl, sym, ap, ◌∙◌, subst, arith}
+use Rattle.std.proofs.Common.{◌≡◌, ℕ, ◌+◌, ◌-◌, ◌^◌, min, Bool, List, ◌++◌, ◌∷◌, [], length, length-append, sym, ap, ◌∙◌, subst, arith}
 use Rattle.bt_ports.specs.declared.parts.Item.{Item}
 use Rattle.bt_intake.specs.declared.policy.Policy.{Policy}
 use Rattle.bt_intake.specs.Batches.{bytes_in, ends_at}

@@ -1,7 +1,7 @@
-use Rattle.std.proofs.Common.{Ok, refl, ◌∙◌, subst}
+use Rattle.std.proofs.Common.{Ok, subst}
 use Rattle.bt_intake.specs.Gathering.{Adds}
 use Rattle.bt_ports.specs.declared.parts.Next.TheVariants as next
-use Rattle.bt_intake.proofs.Batching.{gathers-still, added-holds, added-gathers, added-steps, open-holds, open-gathers, ended-holds, ended-gathers, ended-gives, holds-still, gives-none, says-failed, stopped-holds, stopped-gathers, stopped-answers}
+use Rattle.bt_intake.proofs.Batching.{gathers-still, added-holds, added-gathers, open-holds, open-gathers, ended-holds, ended-gathers, ended-gives, holds-still, gives-none, says-failed, stopped-holds, stopped-gathers, stopped-answers}
 use Rattle.bt_intake.proofs.batches.Batches.take_line.Goals as goal
 
 pub returns-in-Ok-Some-clause-holds : goal.returns-in-Ok-Some-clause-holds
