@@ -9,4 +9,4 @@ pub mod statements;
 pub use bt_contexts::content::{document, this_failure};
 pub use bt_meaning::{Mapped, Spot};
 pub use interpolation::{Bit, Pieces, interpolate};
-pub use run::{check, checked, run_mapping, run_on_document};
+pub use run::{asks, check, check_seen, checked, run_mapping, run_on_document};

@@ -11,7 +11,7 @@ ghost use Rattle.bt_meaning.specs.declared.message.Mapped.TheVariants as made;
 use crate::asking::may_ask;
 use crate::statements::{body, maps_of};
 use bt_contexts::content::{content_of, document, handed_root, this_failure};
-use bt_contexts::got::is_true;
+use bt_contexts::got::{is_true, passes};
 use bt_contexts::{Ctx, Got, This};
 use bt_meaning::{Mapped, Root, Spot, State};
 use bt_ports::NoMemory;
@@ -247,4 +247,26 @@ pub fn check<'a>(alloc: Global, r: &'a Ready, msg: &'a Msg, spot: Spot) -> Resul
         Ok(passes) => Ok(passes),
         Err(_) => Ok(false),
     }
+}
+
+/// Whether a mapping may ask for the document of the message. No contract speaks of the answer: where it is no, a query
+/// that asks all the same reads the content.
+pub fn asks(r: &Ready) -> bool {
+    may_ask(&r.mapping)
+}
+
+/// Whether a mapping that is one query gives true on a message, as [`check`] has it, where it is known what `this` gives.
+pub fn check_seen<'a>(
+    alloc: Global,
+    r: &'a Ready,
+    msg: &'a Msg,
+    this: This<'a>,
+    spot: Spot,
+) -> Result<bool, NoMemory>
+    requires { this_seen this msg.now ≡ this_of msg.now.content }
+    ensures { IfOk result (λ b. b ≡ spec.checks r.now.mapping msg.now spot) }
+{
+    let c = top(r, msg, this, spot);
+    let got = query_out(alloc, &r.mapping, &c)?;
+    Ok(passes(&got))
 }
