@@ -1,23 +1,25 @@
 -- Each call of a desk keeps its standing.
-use Rattle.std.proofs.Common.{◌≡◌, ◌≢◌, ℕ, zero, suc, ◌+◌, ◌<◌, ◌≤◌, Bool, true, false, eqb, not, ◌||◌, List, [], ◌∷◌, length, get_or, set, arith, refl, sym, ap, ◌∙◌, subst, eq-eqb, inl, inr, ◌⊎◌, Option, Some, None, IsSome, length-set}
+use Rattle.std.proofs.Common.{◌≡◌, ◌≢◌, ℕ, zero, suc, ◌<◌, ◌≤◌, Bool, true, false, eqb, not, ◌||◌, List, [], ◌∷◌, length, get_or, set, arith, refl, sym, ap, ◌∙◌, subst, inl, inr, Option, Some, None, IsSome, length-set}
 use Rattle.std.specs.List.{list_any}
 use Rattle.std.specs.Prelude.{replicate}
 use Rattle.std.proofs.lemmas.Bool.Decides.{eqb_tells}
 use Rattle.bt_chains.specs.declared.Entry.{Entry}
 use Rattle.bt_demand.specs.declared.routes.HoldPolicy.{HoldPolicy}
 use Rattle.bt_duties.specs.DeskView.{DeskView}
-use Rattle.bt_duties.specs.Duties.{idle, duty_at, Names, Dutiful, AllIdle}
+use Rattle.bt_duties.specs.Duties.{idle, duty_at, Dutiful, AllIdle}
 use Rattle.bt_duties.specs.Standing.{Standing}
 use Rattle.bt_duties.specs.declared.duty.Duty.{Duty}
-use Rattle.bt_duties.proofs.Duties.{dutiful_after, dutiful_delivered, dutiful_taken, dutiful_make, none_out, all_free, none_opened, out_there}
+use Rattle.bt_duties.proofs.Duties.{dutiful_after, dutiful_delivered, dutiful_taken, dutiful_make, none_out, all_free, none_opened}
 use Rattle.bt_floor.specs.Calls.{Begins, Takes}
 use Rattle.bt_floor.specs.declared.making.Parts.{Parts}
+use Rattle.bt_leaves.specs.Released.{ReleasedSettled}
 use Rattle.bt_ledger.specs.Calls.{IsOut}
-use Rattle.bt_ledger.specs.Ledger.{Ledger, slot_at, is_free, is_given, chain_at, opened, with_slot}
+use Rattle.bt_ledger.specs.Open.{tree_of}
+use Rattle.bt_ledger.specs.Ledger.{Ledger, slot_at, parts_in, is_free, is_given, chain_at, opened}
 use Rattle.bt_ledger.specs.declared.slot.Slot.{Slot}
 use Rattle.bt_ledger.specs.declared.slot.Slot.TheVariants.{Free, Out, Given}
 use Rattle.bt_moves.specs.Moves.{Delivered, Keeps, OutStays, RipensNone, is_out}
-use Rattle.bt_moves.specs.Resting.{Emptied, Resting}
+use Rattle.bt_moves.specs.Resting.{AllSettled, Emptied, Resting}
 use Rattle.bt_moves.proofs.Closing.{resting_flushed, resting_slot}
 use Rattle.bt_moves.proofs.Keeping.{closed_quiet, closed_rest}
 use Rattle.bt_moves.proofs.Ripening.{empty_unripe}
@@ -76,9 +78,9 @@ some_none (Some x) h e = cc
 
 -- a transaction was taken for a duty that was idle
 pub standing_taken : {I K A C D : Type 0} (gi : Intake.Ghosts I) (gc : Clock.Ghosts C) (d : DeskView I K A C D) (f g : FloorView I K A C D) (k s : ℕ) (t : Txn) → Standing d → d.floor.outside.ending ≡ None → k < length d.duties → (duty_at d.duties k).number ≡ 0
-    → Takes gi gc d.floor f s t → Keeps f.ledger g.ledger → RipensNone f.ledger g.ledger → OutStays f.ledger g.ledger
+    → Takes gi gc d.floor f s t → Keeps f.ledger g.ledger → RipensNone f.ledger g.ledger → AllSettled g.ledger → OutStays f.ledger g.ledger
     → Standing (record d { floor = g; duties = set d.duties k (record { number = t.number; items = length t.items.list; slot = s }) })
-standing_taken gi gc d f g k s t h goes w b take keeps calm outs =
+standing_taken gi gc d f g k s t h goes w b take keeps calm settled outs =
     let l = d.floor.ledger in
     let x : Slot = Out t.number t.moment (length t.items.list) in
     let here = take.number in
@@ -86,7 +88,7 @@ standing_taken gi gc d f g k s t h goes w b take keeps calm outs =
     let rest = resting_slot d.floor.ledger s (Out t.number t.moment (length t.items.list)) take.within no refl h.resting in
     let duty = dutiful_taken d.floor.ledger d.duties k s t.number t.moment (length t.items.list) w b take.within take.free (λ e. (let z = e in absurd (omega arith))) h.dutiful in
     record {
-      resting = resting_flushed f.ledger g.ledger (subst (λ q. Resting q) (sym take.ledger) rest) keeps calm;
+      resting = resting_flushed f.ledger g.ledger (subst (λ q. Resting q) (sym take.ledger) rest) keeps calm settled;
       dutiful = dutiful_after f.ledger g.ledger _ outs (subst (λ q. Dutiful q (set d.duties k (record { number = t.number; items = length t.items.list; slot = s }))) (sym take.ledger) duty);
       window = keeps.slots ∙ (ap (λ (q : Ledger). length q.slots) take.ledger ∙ (length-set d.floor.ledger.slots s (Out t.number t.moment (length t.items.list)) ∙ h.window));
       some = h.some;
@@ -109,6 +111,10 @@ many : (w : ℕ) → length {A = Slot} (replicate w Free) ≡ w
 many zero = refl
 many (suc w) = let a = many w in omega arith
 
+-- after a transaction was taken the children of released holds are still settled
+pub taken_settled : {I K A C D : Type 0} (gi : Intake.Ghosts I) (gc : Clock.Ghosts C) (f g : FloorView I K A C D) (s : ℕ) (t : Txn) → Resting f.ledger → Takes gi gc f g s t → AllSettled g.ledger
+taken_settled gi gc f g s t r take = (subst (λ q. Resting q) (sym take.ledger) (resting_slot f.ledger s (Out t.number t.moment (length t.items.list)) take.within (ap is_given take.free) refl r)).settled
+
 -- a desk at its beginning
 pub standing_made : {I K A C D : Type 0} (f : FloorView I K A C D) (plan : D) (policies : List HoldPolicy) (p : Parts I K A C) (w e n : ℕ) → Begins f plan policies p w e → 1 ≤ w
     → Standing {I = I} {K = K} {A = A} {C = C} {D = D} (record { floor = f; duties = replicate n idle; window = w; finished = false })
@@ -118,6 +124,7 @@ standing_made f plan policies p w e n b s =
     record {
       resting = record {
         quiet = λ a c. closed_quiet (slot_at f.ledger a) c (closed a);
+        settled = λ a c. subst (λ x. ReleasedSettled (tree_of (parts_in x) c)) (sym (free a)) tt;
         rest = λ a. closed_rest f.ledger a (closed a);
         calm = λ k. empty_unripe f.ledger k (ap (λ (q : Ledger). chain_at q k) b.ledger ∙ empty_at (length policies) k);
       };

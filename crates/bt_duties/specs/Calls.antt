@@ -1,5 +1,5 @@
 -- What the calls of a desk do.
-use Rattle.std.specs.Prelude.{◌≡◌, ◌≢◌, ℕ, ◌+◌, ◌^◌, ◌<◌, ◌≤◌, true, List, length, IsTrue, Some, None}
+use Rattle.std.specs.Prelude.{◌≡◌, ◌≢◌, ℕ, ◌+◌, ◌^◌, ◌<◌, ◌≤◌, length, IsTrue, Some, None}
 use Rattle.bt_duties.specs.DeskView.{DeskView}
 use Rattle.bt_duties.specs.Duties.{duty_at}
 use Rattle.bt_duties.specs.declared.admit.Admit.{Admit}

@@ -6,7 +6,8 @@ use Rattle.bt_ledger.specs.Ledger.{slot_at, is_free}
 use Rattle.bt_moves.specs.Resting.{Emptied, Resting}
 
 pub record Standing {I K A C D : Type 0} (d : DeskView I K A C D) : Type 0 where
-  -- no part can go on, nothing is due, each open transaction has an item without its answer, and no chain is ripe
+  -- no part can go on, the child of each released hold is met or lost, nothing is due, each open transaction has an item
+  -- without its answer, and no chain is ripe
   pub resting : Resting d.floor.ledger
   -- each transaction that is out is named by one duty, and no duty names another
   pub dutiful : Dutiful d.floor.ledger d.duties

@@ -15,9 +15,11 @@ use Rattle.bt_sound.specs.View.{Past}
 
 pub record Stands {I K A C D : Type 0} (gi : Intake.Ghosts I) (gk : Sink.Ghosts K) (ga : Answerer.Ghosts A) (gc : Clock.Ghosts C) (gd : Derive.Ghosts D) (d : DeskView I K A C D) (closed : List Past) : Type 0 where
   -- each taken transaction is out, open or closed, and one of the run; its trees are the plan's; each leaf has the records
-  -- of its state, and each item its one answer where all its parts are settled; the counts are the numbers of these
+  -- of its state, and there are no others; each record has its leaf's sink and bytes, and a batch number that fits the hold
+  -- over it; each item has its one answer where all its parts are settled; the counts are the numbers of these
   pub sound : Sound gi gk ga gc gd d.floor closed
-  -- each duty is idle or names a transaction that is out; no part can go on, nothing is due, and no chain is ripe
+  -- each duty is idle or names a transaction that is out; no part can go on, the child of each released hold is met or
+  -- lost, nothing is due, and no chain is ripe
   pub standing : Standing d
   -- each hold that waits has one entry, in its own chain, with what it says; no other entry is there; all chains have
   -- together at most as many entries as the booked holds, and these are at most the pool's

@@ -1,5 +1,5 @@
 -- How a floor's fields show what it is.
-use Rattle.bt_sound.specs.View.{FloorView, Outside}
+use Rattle.bt_sound.specs.View.{FloorView}
 use Rattle.bt_floor.specs.declared.floor.Floor.TheInside.{Inside}
 
 abbrev pub shown : {I K A C D : Type 0} → Inside I K A C D → FloorView I K A C D

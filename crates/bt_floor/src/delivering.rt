@@ -8,7 +8,7 @@ ghost use Rattle.bt_ledger.specs.Calls.{IsOut};
 ghost use Rattle.bt_ledger.specs.Ledger.{items_in, number_in, slot_at, part_tree, parts_in, is_given, IsPart, IsGiven, Roomy, with_slot};
 ghost use Rattle.bt_ledger.specs.declared.slot.Slot.TheVariants.{Given};
 ghost use Rattle.bt_moves.specs.Moves.{Delivered, SlotStays, OutStays};
-ghost use Rattle.bt_moves.specs.Resting.{Resting, AtRest, Delivering, Unripe};
+ghost use Rattle.bt_moves.specs.Resting.{AllSettled, Resting, AtRest, Delivering, Unripe};
 ghost use Rattle.bt_sound.specs.Counting.{capped};
 ghost use Rattle.bt_sound.specs.Transactions.{Derived, given_open};
 
@@ -100,6 +100,7 @@ impl<I: Intake, K: Sink, A: Answerer, C: Clock, D: Derive> Floor<I, K, A, C, D> 
         requires fresh { (b : ℕ) → begun (part_tree self.old.ledger slot b) ≡ false }
         requires rest { (a : ℕ) → AtRest self.old.ledger a }
         requires calm { (n : ℕ) → Unripe self.old.ledger n }
+        requires settled { AllSettled self.old.ledger }
         ensures resting { Resting self.new.ledger }
         ensures outs { OutStays self.old.ledger self.new.ledger }
         ensures slots { length self.new.ledger.slots ≡ length self.old.ledger.slots }

@@ -2,7 +2,7 @@
 ghost use Rattle.std.specs.Prelude.{◌≡◌, ℕ, ◌<◌, [], length, ltb, false};
 ghost use Rattle.bt_ledger.specs.Ledger.{slot_at, is_given, chain_at};
 ghost use Rattle.bt_moves.specs.Moves.{LateKeepsBut, Keeps, RipensNone, BeginsNone, OutStays};
-ghost use Rattle.bt_moves.specs.Resting.{Resting, BegunStill, Emptied};
+ghost use Rattle.bt_moves.specs.Resting.{AllSettled, Resting, BegunStill, Emptied};
 
 use crate::floor::Floor;
 use bt_demand::derive::Derive;
@@ -21,7 +21,9 @@ impl<I: Intake, K: Sink, A: Answerer, C: Clock, D: Derive> Floor<I, K, A, C, D> 
 
     /// Releases a chain where it holds something.
     fn flush_one(&mut self, node: u32, why: Reason)
-        requires { node < length self.old.ledger.policies }
+        requires known { node < length self.old.ledger.policies }
+        requires settled { AllSettled self.old.ledger }
+        ensures settled { AllSettled self.new.ledger }
         ensures others { Keeps self.old.ledger self.new.ledger }
         ensures fresh { BeginsNone self.old.ledger self.new.ledger }
         ensures outs { OutStays self.old.ledger self.new.ledger }
@@ -38,6 +40,8 @@ impl<I: Intake, K: Sink, A: Answerer, C: Clock, D: Derive> Floor<I, K, A, C, D> 
     /// Releases every chain that holds something, in order of number. Afterwards none does.
     pub fn flush(&mut self, why: Reason)
         requires still { BegunStill self.old.ledger }
+        requires settled { AllSettled self.old.ledger }
+        ensures settled { AllSettled self.new.ledger }
         ensures empty { Emptied self.new.ledger }
         ensures others { Keeps self.old.ledger self.new.ledger }
         ensures fresh { BeginsNone self.old.ledger self.new.ledger }
@@ -68,7 +72,9 @@ impl<I: Intake, K: Sink, A: Answerer, C: Clock, D: Derive> Floor<I, K, A, C, D> 
 
     /// Releases a chain whose oldest entry waited for the hold's period.
     fn release_if_past(&mut self, node: u32, moment: u64)
-        requires { node < length self.old.ledger.policies }
+        requires known { node < length self.old.ledger.policies }
+        requires settled { AllSettled self.old.ledger }
+        ensures settled { AllSettled self.new.ledger }
         ensures others { Keeps self.old.ledger self.new.ledger }
         ensures calm { RipensNone self.old.ledger self.new.ledger }
         ensures outs { OutStays self.old.ledger self.new.ledger }
@@ -81,6 +87,8 @@ impl<I: Intake, K: Sink, A: Answerer, C: Clock, D: Derive> Floor<I, K, A, C, D> 
 
     /// Releases, in order of number, each chain whose oldest entry waited for the hold's period.
     pub fn release_past(&mut self, moment: u64)
+        requires settled { AllSettled self.old.ledger }
+        ensures settled { AllSettled self.new.ledger }
         ensures others { Keeps self.old.ledger self.new.ledger }
         ensures calm { RipensNone self.old.ledger self.new.ledger }
         ensures outs { OutStays self.old.ledger self.new.ledger }

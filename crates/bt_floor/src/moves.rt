@@ -3,7 +3,7 @@ ghost use Rattle.std.specs.Prelude.{◌≡◌, ℕ, ◌<◌, ◌≤◌, ◌^◌,
 ghost use Rattle.bt_demand.specs.Find.{begun};
 ghost use Rattle.bt_demand.specs.Next.{todo};
 ghost use Rattle.bt_demand.specs.Parts.{PartsFit, parts_of};
-ghost use Rattle.bt_demand.specs.Reached.{IsNext, Reach};
+ghost use Rattle.bt_demand.specs.Reached.{Reach};
 ghost use Rattle.bt_demand.specs.Steps.{settle, state_for};
 ghost use Rattle.bt_demand.specs.declared.todo.Todo.TheVariants.{Wait};
 ghost use Rattle.bt_ledger.specs.Calls.{IsOut};
@@ -12,8 +12,10 @@ ghost use Rattle.bt_ledger.specs.Ledger.{items_in, number_in, slot_at, part_tree
 ghost use Rattle.bt_ledger.specs.Verdicts.{verdict_of};
 ghost use Rattle.bt_ledger.specs.declared.slot.Slot.TheVariants.{Free, Given};
 ghost use Rattle.bt_moves.specs.Moves.{LateKeeps, PopKeepsLate, Popped, left_to_do, StepAt, Answering, RipensNone, RipensBut, BeginsNone};
+ghost use Rattle.bt_moves.specs.Resting.{AllSettled, PopSettles};
 ghost use Rattle.bt_ports.specs.Faults.{one_more};
 ghost use Rattle.bt_sound.specs.Counting.{answer_with, count_with};
+ghost use Rattle.bt_sound.specs.Owned.{BatchFits, PutsAs, ReleasesRise};
 ghost use Rattle.bt_sound.specs.Records.{PutAt};
 ghost use Rattle.bt_sound.specs.Transactions.{Derived, given_open};
 
@@ -28,12 +30,14 @@ use bt_ports::parts::{Cause, Verdict};
 use bt_sound::counts::Counts;
 
 impl<I: Intake, K: Sink, A: Answerer, C: Clock, D: Derive> Floor<I, K, A, C, D> {
-    /// Puts the record of the leaf that is next to its sink, and writes down what came of it.
+    /// Puts the record of the leaf that is next to its sink, and writes down what came of it. The batch number is 0 outside
+    /// the holds, and below one the number of one of its releases.
     pub(crate) fn put(&mut self, slot: u32, part: u32, leaf: u32, sink: u32, batch: u64) -> bool
         requires part { IsPart self.old.ledger slot part }
-        requires next { IsNext leaf sink (part_tree self.old.ledger slot part) }
+        requires puts { PutsAs self.old.releases leaf sink batch (part_tree self.old.ledger slot part) }
         requires room { Roomy self.old.ledger slot part }
         ensures ledger { self.new.ledger ≡ with_part self.old.ledger slot part (settle leaf (state_for result) (part_tree self.old.ledger slot part)) }
+        ensures releases { self.new.releases ≡ self.old.releases }
         ensures outside { self.new.outside ≡ self.old.outside }
     {
         let number = self.ledger.number(slot);
@@ -52,6 +56,8 @@ impl<I: Intake, K: Sink, A: Answerer, C: Clock, D: Derive> Floor<I, K, A, C, D> 
         ensures falls { left_to_do self.new.ledger < left_to_do self.old.ledger }
         ensures late { begun (part_tree self.old.ledger slot part) ≡ true → (n : ℕ) → LateKeeps n self.old.ledger self.new.ledger }
         ensures calm { RipensBut node self.old.ledger self.new.ledger }
+        ensures settled { AllSettled self.old.ledger → AllSettled self.new.ledger }
+        ensures releases { self.new.releases ≡ self.old.releases }
         ensures outside { self.new.outside ≡ self.old.outside }
     {
         let _booked = self.ledger.booked();
@@ -66,6 +72,8 @@ impl<I: Intake, K: Sink, A: Answerer, C: Clock, D: Derive> Floor<I, K, A, C, D> 
         ensures reach { MatchOption result (0 ≤ 0) (λ e. Reach node (part_tree self.new.ledger e.slot e.part)) }
         ensures calm { RipensNone self.old.ledger self.new.ledger }
         ensures fresh { BeginsNone self.old.ledger self.new.ledger }
+        ensures settled { AllSettled self.old.ledger → PopSettles node self.new.ledger result }
+        ensures releases { self.new.releases ≡ self.old.releases }
         ensures outside { self.new.outside ≡ self.old.outside }
     {
         let _booked = self.ledger.booked();
@@ -78,6 +86,7 @@ impl<I: Intake, K: Sink, A: Answerer, C: Clock, D: Derive> Floor<I, K, A, C, D> 
         requires due { LeastDue (open_in (slot_at self.old.ledger slot)) (Some item) }
         ensures answering { Answering slot self.old.ledger self.new.ledger }
         ensures falls { unanswered (answered_in (slot_at self.new.ledger slot)) < unanswered (answered_in (slot_at self.old.ledger slot)) }
+        ensures releases { self.new.releases ≡ self.old.releases }
         ensures outside { self.new.outside ≡ self.old.outside }
     {
         let number = self.ledger.number(slot);
@@ -110,6 +119,7 @@ impl<I: Intake, K: Sink, A: Answerer, C: Clock, D: Derive> Floor<I, K, A, C, D> 
         requires given { IsGiven self.old.ledger slot }
         requires answered { unanswered (answered_in (slot_at self.old.ledger slot)) ≡ 0 }
         ensures ledger { self.new.ledger ≡ with_slot self.old.ledger slot Free }
+        ensures releases { self.new.releases ≡ self.old.releases }
         ensures outside { self.new.outside ≡ self.old.outside }
     {
         let _routes = self.ledger.close(slot);
@@ -122,6 +132,8 @@ impl<I: Intake, K: Sink, A: Answerer, C: Clock, D: Derive> Floor<I, K, A, C, D> 
         ensures outside { self.new.outside ≡ self.old.outside }
         ensures number { result ≡ one_more (get_or self.old.releases node 0) }
         ensures releases { self.new.releases ≡ set self.old.releases node result }
+        ensures rise { ReleasesRise self.old.releases self.new.releases }
+        ensures fits { BatchFits self.new.releases (Some node) result }
         ensures counts { self.new.counts ≡ count_with why self.old.counts }
     {
         count_reason(&mut self.counts, why);
@@ -199,6 +211,7 @@ fn count_release(releases: &mut Vec<u64>, node: u32) -> u64
     requires { node < length releases.old.items }
     ensures number { result ≡ one_more (get_or releases.old.items node 0) }
     ensures releases { releases.new.items ≡ set releases.old.items node result }
+    ensures rises { get_or releases.old.items node 0 ≤ result }
 {
     let count = &mut releases[node as usize];
     *count = count.saturating_add(1);

@@ -1,5 +1,5 @@
 //! Settling a part and releasing a hold, each of which may lead to the other.
-ghost use Rattle.std.specs.Prelude.{◌≡◌, ℕ, ◌<◌, ◌≤◌, [], length, MatchOption, None, true};
+ghost use Rattle.std.specs.Prelude.{◌≡◌, ℕ, ◌<◌, ◌≤◌, [], length, MatchOption, None, Some, true};
 ghost use Rattle.bt_demand.specs.Find.{begun, below};
 ghost use Rattle.bt_demand.specs.Flushing.{Still};
 ghost use Rattle.bt_demand.specs.Next.{todo};
@@ -7,7 +7,8 @@ ghost use Rattle.bt_demand.specs.Reached.{Reach, NextIn};
 ghost use Rattle.bt_ledger.specs.Due.{LeastDue};
 ghost use Rattle.bt_ledger.specs.Ledger.{slot_at, part_tree, IsPart, IsGiven, Roomy, open_in, chain_at};
 ghost use Rattle.bt_moves.specs.Moves.{LateKeeps, LateKeepsBut, left_to_do, Keeps, KeepsBut, StepAt, Answering, RipensNone, BeginsNone, BeginsBut, OutStays};
-ghost use Rattle.bt_moves.specs.Resting.{AtRest};
+ghost use Rattle.bt_moves.specs.Resting.{AllSettled, AllSettledBut, AtRest};
+ghost use Rattle.bt_sound.specs.Owned.{BatchFits, ReleasesRise};
 
 use crate::floor::Floor;
 use bt_demand::derive::Derive;
@@ -35,6 +36,8 @@ impl<I: Intake, K: Sink, A: Answerer, C: Clock, D: Derive> Floor<I, K, A, C, D> 
         ensures still { (p : ℕ) → Still (todo (part_tree self.old.ledger slot p)) → Still (todo (part_tree self.new.ledger slot p)) }
         ensures no_more { left_to_do self.new.ledger ≤ left_to_do self.old.ledger }
         ensures late { (n : ℕ) → LateKeeps n self.old.ledger self.new.ledger }
+        ensures settled { AllSettled self.old.ledger → AllSettled self.new.ledger }
+        ensures releases { self.new.releases ≡ self.old.releases }
     {
         self.answer_due(slot);
         if self.unanswered(slot) == 0 {
@@ -47,6 +50,7 @@ impl<I: Intake, K: Sink, A: Answerer, C: Clock, D: Derive> Floor<I, K, A, C, D> 
         requires { IsGiven self.old.ledger slot }
         ensures answering { Answering slot self.old.ledger self.new.ledger }
         ensures none { LeastDue (open_in (slot_at self.new.ledger slot)) None }
+        ensures releases { self.new.releases ≡ self.old.releases }
         ensures outside { self.new.outside ≡ self.old.outside }
     {
         while let Some(item) = self.due(slot) {
@@ -54,11 +58,11 @@ impl<I: Intake, K: Sink, A: Answerer, C: Clock, D: Derive> Floor<I, K, A, C, D> 
         }
     }
 
-    /// The leaf that is next below a hold that is asked and released.
+    /// The leaf that is next below a hold that is asked and released, and None where none is.
     fn next_below(&self, slot: u32, part: u32, node: u32) -> Option<Leaf>
         requires part { IsPart self.now.ledger slot part }
         requires reach { Reach node (part_tree self.now.ledger slot part) }
-        ensures { MatchOption result (0 ≤ 0) (λ x. NextIn x.leaf x.sink (below node (part_tree self.now.ledger slot part))) }
+        ensures { MatchOption result ((l k : ℕ) → NextIn l k (below node (part_tree self.now.ledger slot part)) → ⊥) (λ x. NextIn x.leaf x.sink (below node (part_tree self.now.ledger slot part))) }
     {
         match self.ledger.todo_below(slot, part, node) {
             Some(Todo::Put { leaf, sink }) => Some(Leaf { leaf, sink }),
@@ -71,6 +75,10 @@ impl<I: Intake, K: Sink, A: Answerer, C: Clock, D: Derive> Floor<I, K, A, C, D> 
         requires part { IsPart self.old.ledger slot part }
         requires begun { begun (part_tree self.old.ledger slot part) ≡ true }
         requires reach { Reach node (part_tree self.old.ledger slot part) }
+        requires settled { AllSettledBut node slot part self.old.ledger }
+        requires batch { BatchFits self.old.releases (Some node) batch }
+        ensures settled { AllSettled self.new.ledger }
+        ensures releases { self.new.releases ≡ self.old.releases }
         ensures calm { RipensNone self.old.ledger self.new.ledger }
         ensures outside { self.new.outside ≡ self.old.outside }
         ensures part { IsPart self.new.ledger slot part }
@@ -81,6 +89,7 @@ impl<I: Intake, K: Sink, A: Answerer, C: Clock, D: Derive> Floor<I, K, A, C, D> 
         while let Some(next) = self.next_below(slot, part, node) {
             let _accepted = self.put(slot, part, next.leaf, next.sink, batch);
         }
+        self.in_order();
     }
 
     /// Goes on with a part as far as it goes.
@@ -88,6 +97,9 @@ impl<I: Intake, K: Sink, A: Answerer, C: Clock, D: Derive> Floor<I, K, A, C, D> 
     pub fn settle_part(&mut self, slot: u32, part: u32)
         requires part { IsPart self.old.ledger slot part }
         requires room { Roomy self.old.ledger slot part }
+        requires settled { AllSettled self.old.ledger }
+        ensures settled { AllSettled self.new.ledger }
+        ensures rise { ReleasesRise self.old.releases self.new.releases }
         ensures here { Still (todo (part_tree self.new.ledger slot part)) }
         ensures rest { AtRest self.new.ledger slot }
         ensures others { Keeps self.old.ledger self.new.ledger }
@@ -121,7 +133,10 @@ impl<I: Intake, K: Sink, A: Answerer, C: Clock, D: Derive> Floor<I, K, A, C, D> 
     /// Releases all that waits in a chain, under one batch number.
     #[cycle(settling)]
     pub fn release(&mut self, node: u32, why: Reason)
-        requires { node < length self.old.ledger.policies }
+        requires known { node < length self.old.ledger.policies }
+        requires settled { AllSettled self.old.ledger }
+        ensures settled { AllSettled self.new.ledger }
+        ensures rise { ReleasesRise self.old.releases self.new.releases }
         ensures others { Keeps self.old.ledger self.new.ledger }
         ensures fresh { BeginsNone self.old.ledger self.new.ledger }
         ensures outs { OutStays self.old.ledger self.new.ledger }

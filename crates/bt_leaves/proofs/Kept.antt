@@ -76,7 +76,7 @@ mutual
   nodes_untried_in (more t ts) = rw (nodes_untried t, nodes_untried_in ts) refl
 
 mutual
-  flat_untried : (t : Tree) → IsFlat (untried t) → IsFlat t
+  pub flat_untried : (t : Tree) → IsFlat (untried t) → IsFlat t
   flat_untried (leaf n k b x) h = tt
   flat_untried nothing h = tt
   flat_untried (reject w) h = tt

@@ -1,1 +1,3 @@
 pub mod EachLeaf
+pub mod LeafAt
+pub mod Released

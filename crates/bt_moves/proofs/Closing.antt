@@ -9,6 +9,7 @@ use Rattle.bt_demand.specs.Outcomes.{outcome}
 use Rattle.bt_demand.specs.Parts.{Part}
 use Rattle.bt_demand.specs.Tree.{Tree}
 use Rattle.bt_demand.proofs.Shapes.{still-settled}
+use Rattle.bt_leaves.specs.Released.{ReleasedSettled}
 use Rattle.bt_ledger.specs.Book.{Booked}
 use Rattle.bt_ledger.specs.Due.{unanswered, counts_for, open_parts, times}
 use Rattle.bt_ledger.specs.Ledger.{Ledger, slot_at, parts_in, is_given, answered_in, part_tree, over_parts, held, with_slot}
@@ -20,14 +21,15 @@ use Rattle.bt_ledger.proofs.BookSlots.{tree_same}
 use Rattle.bt_moves.proofs.Keeping.{closed_rest}
 use Rattle.bt_moves.proofs.Ripening.{calms_trees}
 use Rattle.bt_moves.specs.Moves.{SlotStays, Keeps, RipensNone}
-use Rattle.bt_moves.specs.Resting.{Unfinished, AtRest, Unripe, BegunStill, Emptied, Delivering, Resting}
+use Rattle.bt_moves.specs.Resting.{AllSettled, Unfinished, AtRest, Unripe, BegunStill, Emptied, Delivering, Resting}
 use Rattle.bt_moves.proofs.Ordering.{chains_zero, slot_in}
 
 pub resting_still : (l : Ledger) → Resting l → BegunStill l
 resting_still l r = λ s p _. r.quiet s p
 
-pub resting_flushed : (l m : Ledger) → Resting l → Keeps l m → RipensNone l m → Resting m
-resting_flushed l m r k c = record {
+pub resting_flushed : (l m : Ledger) → Resting l → Keeps l m → RipensNone l m → AllSettled m → Resting m
+resting_flushed l m r k c e = record {
+  settled = e;
   quiet = λ s p. k.quiet s p (r.quiet s p);
   rest = λ s. k.rest s (r.rest s);
   calm = λ n. c n (r.calm n);
@@ -64,8 +66,9 @@ none_given l r b e s = elim (bool_or (is_given (slot_at l s))) [
       absurd (rest.0 i.0 (i.1.0, i.1.1, none_open (parts_in (slot_at l s)) i.0 settled)))
 ]
 
-pub delivering_begins : (s : ℕ) (l : Ledger) → ((a b : ℕ) → a ≢ s → Still (todo (part_tree l a b))) → ((b : ℕ) → begun (part_tree l s b) ≡ false) → ((a : ℕ) → AtRest l a) → ((n : ℕ) → Unripe l n) → Delivering s 0 l
-delivering_begins s l q f r c = record {
+pub delivering_begins : (s : ℕ) (l : Ledger) → ((a b : ℕ) → a ≢ s → Still (todo (part_tree l a b))) → ((b : ℕ) → begun (part_tree l s b) ≡ false) → ((a : ℕ) → AtRest l a) → ((n : ℕ) → Unripe l n) → AllSettled l → Delivering s 0 l
+delivering_begins s l q f r c e = record {
+  settled = e;
   quiet = λ a b n. q a b (λ e. n e (omega arith));
   fresh = λ b _. f b;
   rest = r;
@@ -79,6 +82,7 @@ none_at (x ∷ ps) (suc p) h = none_at ps p (omega arith)
 
 pub delivering_ends : (s n : ℕ) (l : Ledger) → Delivering s n l → length (parts_in (slot_at l s)) ≤ n → Resting l
 delivering_ends s n l d w = record {
+  settled = d.settled;
   quiet = λ a b. elim (eqb_tells a s) [
     | inl u ↦ (elim (leb_tells n b) [
       | inl v ↦ subst (λ x. Still (todo (part_tree l x b))) (sym u.1) (none_at (parts_in (slot_at l s)) b (let z = v.1 in omega arith))
@@ -130,6 +134,7 @@ resting_slot l s x w e f r =
     let trees = tree_same l s x w none in
     record {
       quiet = λ a b. subst (λ t. Still (todo t)) (sym (trees a b)) (r.quiet a b);
+      settled = λ a b. subst (λ t. ReleasedSettled t) (sym (trees a b)) (r.settled a b);
       rest = λ a. elim (eqb_tells a s) [
         | inl i ↦ subst (λ q. AtRest (with_slot l s x) q) (sym i.1) (closed_rest (with_slot l s x) s (ap is_given (get_or-set_same l.slots s x Free w) ∙ f))
         | inr i ↦ rw (get_or-set_other l.slots s a x Free i.1) (r.rest a)

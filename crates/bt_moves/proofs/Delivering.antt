@@ -9,7 +9,7 @@ use Rattle.bt_steps.proofs.HoldLaws.{every_is_holds}
 use Rattle.bt_ledger.specs.Book.{Booked}
 use Rattle.bt_ledger.specs.Ledger.{Ledger, slot_at, is_given, part_tree, chain_at, Roomy}
 use Rattle.bt_moves.specs.Moves.{Keeps, RipensNone, BeginsNone, BeginsBut}
-use Rattle.bt_moves.specs.Resting.{BegunStill, Emptied, Delivering}
+use Rattle.bt_moves.specs.Resting.{AllSettled, BegunStill, Emptied, Delivering}
 use Rattle.bt_moves.proofs.Keeping.{closed_quiet}
 use Rattle.bt_moves.proofs.Ordering.{none_booked}
 
@@ -25,8 +25,9 @@ delivering_still s i l d = λ a b g. elim (eqb_tells a s) [
   | inr j ↦ d.quiet a b (λ e _. j.1 e)
 ]
 
-pub delivering_flushed : (s i : ℕ) (l m : Ledger) → Delivering s i l → Keeps l m → BeginsNone l m → RipensNone l m → Delivering s i m
-delivering_flushed s i l m d k f c = record {
+pub delivering_flushed : (s i : ℕ) (l m : Ledger) → Delivering s i l → Keeps l m → BeginsNone l m → RipensNone l m → AllSettled m → Delivering s i m
+delivering_flushed s i l m d k f c e = record {
+  settled = e;
   quiet = λ a b n. k.quiet a b (d.quiet a b n);
   fresh = λ b w. f s b (d.fresh b w);
   rest = λ a. k.rest a (d.rest a);
@@ -36,8 +37,9 @@ delivering_flushed s i l m d k f c = record {
 above : (i b : ℕ) → b ≢ i → i ≤ b → i + 1 ≤ b
 above i b d w = elim (leb_tells (i + 1) b) [ inl h ↦ h.1 | inr h ↦ (let k = h.1 in absurd (d (omega arith))) ]
 
-pub delivering_settled : (s i : ℕ) (l m : Ledger) → Delivering s i l → Still (todo (part_tree m s i)) → Keeps l m → BeginsBut s i l m → RipensNone l m → Delivering s (i + 1) m
-delivering_settled s i l m d h k f c = record {
+pub delivering_settled : (s i : ℕ) (l m : Ledger) → Delivering s i l → Still (todo (part_tree m s i)) → Keeps l m → BeginsBut s i l m → RipensNone l m → AllSettled m → Delivering s (i + 1) m
+delivering_settled s i l m d h k f c o = record {
+  settled = o;
   quiet = λ a b n. elim (eqb_tells a s) [
     | inl u ↦ (elim (eqb_tells b i) [
       | inl v ↦ subst (λ x. Still (todo (part_tree m x b))) (sym u.1) (subst (λ x. Still (todo (part_tree m s x))) (sym v.1) h)
@@ -52,6 +54,7 @@ delivering_settled s i l m d h k f c = record {
 
 pub delivering_closed : (s i : ℕ) (l : Ledger) → Delivering s i l → is_given (slot_at l s) ≡ false → Delivering s (i + 1) l
 delivering_closed s i l d g = record {
+  settled = d.settled;
   quiet = λ a b n. elim (eqb_tells a s) [
     | inl u ↦ subst (λ x. Still (todo (part_tree l x b))) (sym u.1) (closed_quiet (slot_at l s) b g)
     | inr u ↦ d.quiet a b (λ e _. u.1 e)

@@ -14,7 +14,7 @@ use Rattle.bt_ledger.specs.declared.slot.Slot.{Slot}
 use Rattle.bt_ledger.specs.declared.slot.Slot.TheVariants.{Free, Out, Given}
 use Rattle.bt_ledger.proofs.BookSlots.{none_here, settled_quiet, Quiet}
 use Rattle.bt_moves.specs.Moves.{KeepsBut, RipensNone}
-use Rattle.bt_moves.specs.Resting.{AtRest, Unripe, Resting}
+use Rattle.bt_moves.specs.Resting.{AllSettled, AtRest, Unripe, Resting}
 use Rattle.bt_moves.proofs.Closing.{none_at}
 use Rattle.bt_moves.proofs.Keeping.{closed_quiet}
 
@@ -40,14 +40,16 @@ calms_give l s o b out = λ n h.
 -- after the answers that are due at once
 pub record AllButRest (s : ℕ) (k : Ledger) : Type 0 where
   pub quiet : (a b : ℕ) → a ≢ s → Still (todo (part_tree k a b))
+  pub settled : AllSettled k
   pub rest : (a : ℕ) → AtRest k a
   pub calm : (n : ℕ) → Unripe k n
 
 rest_other : (l : Ledger) (s a : ℕ) (x : Slot) → a ≢ s → AtRest l a → AtRest (with_slot l s x) a
 rest_other l s a x d h = rw (get_or-set_other l.slots s a x Free d) h
 
-pub after_give : (l m k : Ledger) (s p : ℕ) (o : Open) → Resting l → m ≡ with_slot l s (Given o) → RipensNone l m → KeepsBut s p m k → AtRest k s → RipensNone m k → AllButRest s k
-after_give l m k s p o r e c b w d = record {
+pub after_give : (l m k : Ledger) (s p : ℕ) (o : Open) → Resting l → m ≡ with_slot l s (Given o) → RipensNone l m → KeepsBut s p m k → AtRest k s → RipensNone m k → AllSettled k → AllButRest s k
+after_give l m k s p o r e c b w d z = record {
+  settled = z;
   quiet = λ x y n. b.quiet x y (λ z _. n z) (subst (λ q. Still (todo (part_tree q x y))) (sym e) (subst (λ t. Still (todo t)) (sym (other_tree l s (Given o) x y n)) (r.quiet x y)));
   rest = λ x. elim (eqb_tells x s) [
     | inl i ↦ subst (λ q. AtRest k q) (sym i.1) w
@@ -58,6 +60,7 @@ after_give l m k s p o r e c b w d = record {
 
 pub closed_rests : (s : ℕ) (k : Ledger) → AllButRest s k → is_given (slot_at k s) ≡ false → Resting k
 closed_rests s k g e = record {
+  settled = g.settled;
   quiet = λ x y. elim (eqb_tells x s) [
     | inl i ↦ subst (λ q. Still (todo (part_tree k q y))) (sym i.1) (closed_quiet (slot_at k s) y e)
     | inr i ↦ g.quiet x y i.1

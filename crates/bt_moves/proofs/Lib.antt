@@ -9,3 +9,4 @@ pub mod Ordering
 pub mod Outs
 pub mod Popping
 pub mod Ripening
+pub mod Settling

@@ -1,5 +1,5 @@
 -- What is out stays as it is.
-use Rattle.std.proofs.Common.{◌≡◌, ◌≢◌, ℕ, ◌<◌, true, false, length, ◌⊎◌, inl, inr, refl, sym, ap, ◌∙◌, subst, get_or-set_same, get_or-set_other}
+use Rattle.std.proofs.Common.{◌≡◌, ℕ, ◌<◌, true, false, length, ◌⊎◌, inl, inr, refl, sym, ap, ◌∙◌, subst, get_or-set_same, get_or-set_other}
 use Rattle.std.proofs.lemmas.Bool.Decides.{eqb_tells}
 use Rattle.bt_ledger.specs.Ledger.{Ledger, slot_at, is_given, with_slot}
 use Rattle.bt_ledger.specs.declared.slot.Slot.{Slot}

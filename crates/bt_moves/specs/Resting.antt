@@ -1,8 +1,10 @@
 -- A ledger at rest, and one while the parts of a transaction are delivered.
-use Rattle.std.specs.Prelude.{◌≡◌, ℕ, ◌<◌, ◌≤◌, Bool, true, false, List, [], None}
+use Rattle.std.specs.Prelude.{◌≡◌, ℕ, ◌<◌, ◌≤◌, Bool, true, false, List, [], Option, Some, None}
+use Rattle.bt_chains.specs.declared.Entry.{Entry}
 use Rattle.bt_demand.specs.Find.{begun}
 use Rattle.bt_demand.specs.Flushing.{Still}
 use Rattle.bt_demand.specs.Next.{todo}
+use Rattle.bt_leaves.specs.Released.{ReleasedSettled, ReleasedSettledBut}
 use Rattle.bt_ledger.specs.Calls.{reason}
 use Rattle.bt_ledger.specs.Due.{LeastDue, unanswered}
 use Rattle.bt_ledger.specs.Ledger.{Ledger, slot_at, part_tree, open_in, answered_in, is_given, chain_at}
@@ -28,15 +30,33 @@ BegunStill l = (s p : ℕ) → begun (part_tree l s p) ≡ true → Still (todo 
 abbrev pub Emptied : Ledger → Type 0
 Emptied l = (n : ℕ) → chain_at l n ≡ []
 
--- between two calls of a desk: no part can go on, each slot is at rest, and no chain is ripe
+-- in each part the child of each released hold is met or lost
+abbrev pub AllSettled : Ledger → Type 0
+AllSettled l = (s p : ℕ) → ReleasedSettled (part_tree l s p)
+
+-- the same but for the holds of number n in one part
+pub record AllSettledBut (n s p : ℕ) (l : Ledger) : Type 0 where
+  pub others : (a b : ℕ) → (a ≡ s → b ≡ p → ⊥) → ReleasedSettled (part_tree l a b)
+  pub here : ReleasedSettledBut n (part_tree l s p)
+
+-- after the front of chain n left it, or nothing did
+abbrev pub PopSettles : ℕ → Ledger → Option Entry → Type 0
+PopSettles n m None = AllSettled m
+PopSettles n m (Some e) = AllSettledBut n e.slot e.part m
+
+-- between two calls of a desk: no part can go on, the child of each released hold is met or lost, each slot is at rest, and
+-- no chain is ripe
 pub record Resting (l : Ledger) : Type 0 where
   pub quiet : (s p : ℕ) → Still (todo (part_tree l s p))
+  pub settled : AllSettled l
   pub rest : (s : ℕ) → AtRest l s
   pub calm : (n : ℕ) → Unripe l n
 
--- while the parts of a slot are delivered: those from number i on haven't begun, and no other part can go on
+-- while the parts of a slot are delivered: those from number i on haven't begun, no other part can go on, and the child of
+-- each released hold is met or lost
 pub record Delivering (s i : ℕ) (l : Ledger) : Type 0 where
   pub quiet : (a b : ℕ) → (a ≡ s → i ≤ b → ⊥) → Still (todo (part_tree l a b))
+  pub settled : AllSettled l
   pub fresh : (b : ℕ) → i ≤ b → begun (part_tree l s b) ≡ false
   pub rest : (a : ℕ) → AtRest l a
   pub calm : (n : ℕ) → Unripe l n

@@ -28,6 +28,7 @@ use Rattle.bt_sound.specs.Transactions.{Taken, Planned, Shaped, untried_parts}
 use Rattle.bt_sound.specs.View.{FloorView, Past}
 use Rattle.bt_sound.specs.declared.counts.Counts.{Counts}
 use Rattle.bt_sound.proofs.Lists.{each_map, each_both, each_snoc}
+use Rattle.bt_sound.proofs.Owned.{owned_close, owned_same}
 use Rattle.bt_sound.proofs.Placing.{in_slots_set, apart_by, placed_range, gone_by}
 use Rattle.bt_sound.proofs.Slots.{close_cases, over_slot, over_trees}
 
@@ -76,6 +77,7 @@ sound_close gi gk ga gc gd f closed s h w g done =
       told = λ d. over_close (λ x. Told gk f.sinks d x) is_given true f.ledger s w no (h.told d);
       past_told = λ d. (h.told d s g, h.past_told d);
       unwritten = λ d m b k j v x. h.unwritten d m b k j v (known_close f.ledger s closed m w x);
+      owned = λ d. owned_close gk f.releases f.ledger s false closed f.sinks d w (h.owned d);
       called = λ tells. over_close (λ x. Called (ga.calls f.answerer) x) is_free false f.ledger s w no2 (h.called tells);
       past_called = λ tells. (h.called tells s taken, h.past_called tells);
       says = λ tells. each_map (λ c. SaysTrue f.ledger closed c) (λ c. SaysTrue (with_slot f.ledger s Free) (record { state = open_in (slot_at f.ledger s); memory = false } ∷ closed) c) (ga.calls f.answerer)
@@ -193,6 +195,7 @@ sound_answer gi gk ga gc gd f closed s i c u n h w due en ei ev ey told calls cn
       told = λ d. over_answer (λ x. Told gk f.sinks d x) is_given true f.ledger s (set (answered_in (slot_at f.ledger s)) i true) w.0 g (λ x. x) (λ a _ e. h.told d a e) (h.told d s g);
       past_told = h.past_told;
       unwritten = λ d m b k j v x. h.unwritten d m b k j v (known_answer f.ledger s closed m (set (answered_in (slot_at f.ledger s)) i true) w.0 x);
+      owned = λ d. owned_same gk f.releases f.ledger s (record (open_in (slot_at f.ledger s)) { answered = set (answered_in (slot_at f.ledger s)) i true }) closed f.sinks d w.0 refl refl (h.owned d);
       called = λ tells. subst (λ v. (a : ℕ) → is_free (slot_at (with_slot f.ledger s (Given (record (open_in (slot_at f.ledger s)) { answered = set (answered_in (slot_at f.ledger s)) i true }))) a) ≡ false → Called v (open_in (slot_at (with_slot f.ledger s (Given (record (open_in (slot_at f.ledger s)) { answered = set (answered_in (slot_at f.ledger s)) i true }))) a))) (sym (calls tells))
           (over_replace (λ x. Called (ga.calls f.answerer ++ c ∷ []) x) is_free false f.ledger s (set (answered_in (slot_at f.ledger s)) i true) w.0 taken
           (λ a d e. called_other (ga.calls f.answerer) c (open_in (slot_at f.ledger a)) (apart a d e) (h.called (told tells) a e))

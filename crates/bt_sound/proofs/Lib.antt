@@ -2,6 +2,7 @@ pub mod Answered
 pub mod Counting
 pub mod Course
 pub mod Lists
+pub mod Owned
 pub mod Placing
 pub mod Popping
 pub mod Puts

@@ -18,9 +18,11 @@ use Rattle.bt_ports.specs.declared.outside.Sink as Sink
 use Rattle.bt_sound.specs.Counting.{count_with, AnswersCounted, ReleasesSum}
 use Rattle.bt_sound.proofs.Counting.{counted_release, summed_release, release_memory}
 use Rattle.bt_ledger.specs.declared.reason.Reason.{Reason}
+use Rattle.bt_sound.specs.Owned.{ReleasesRise}
 use Rattle.bt_sound.specs.Sound.{Sound}
 use Rattle.bt_sound.specs.View.{FloorView, Past}
 use Rattle.bt_sound.specs.declared.counts.Counts.{Counts}
+use Rattle.bt_sound.proofs.Owned.{owned_later}
 use Rattle.bt_sound.proofs.Steps.{sound_still}
 
 pub sound_pop : {I K A C D : Type 0} (gi : Intake.Ghosts I) (gk : Sink.Ghosts K) (ga : Answerer.Ghosts A) (gc : Clock.Ghosts C) (gd : Derive.Ghosts D) (f : FloorView I K A C D) (closed : List Past) (n : ℕ) (o : Option Entry) (m : Ledger)
@@ -34,9 +36,9 @@ sound_pop gi gk ga gc gd f closed n (Some e) m h b r w =
 
 -- a release of a hold is counted
 pub sound_release : {I K A C D : Type 0} (gi : Intake.Ghosts I) (gk : Sink.Ghosts K) (ga : Answerer.Ghosts A) (gc : Clock.Ghosts C) (gd : Derive.Ghosts D) (f : FloorView I K A C D) (closed : List Past) (n : ℕ) (why : Reason) (k : Counts) (rs : List ℕ)
-    → Sound gi gk ga gc gd f closed → n < length f.releases → k ≡ count_with why f.counts → rs ≡ set f.releases n (one_more (get_or f.releases n 0))
+    → Sound gi gk ga gc gd f closed → n < length f.releases → k ≡ count_with why f.counts → rs ≡ set f.releases n (one_more (get_or f.releases n 0)) → ReleasesRise f.releases rs
     → Sound gi gk ga gc gd (record f { releases = rs; counts = k }) closed
-sound_release gi gk ga gc gd f closed n why k rs h w ek er =
+sound_release gi gk ga gc gd f closed n why k rs h w ek er rise =
     let len : length rs ≡ length f.releases = ap length er ∙ length-set f.releases n (one_more (get_or f.releases n 0)) in
     record {
       placed = h.placed;
@@ -50,6 +52,7 @@ sound_release gi gk ga gc gd f closed n why k rs h w ek er =
       told = h.told;
       past_told = h.past_told;
       unwritten = h.unwritten;
+      owned = λ d. owned_later gk f.releases rs f.ledger closed f.sinks d rise (h.owned d);
       called = h.called;
       past_called = h.past_called;
       says = h.says;

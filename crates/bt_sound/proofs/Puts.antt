@@ -11,7 +11,7 @@ use Rattle.bt_leaves.specs.EachLeaf.{EachLeaf, EachLeafIn}
 use Rattle.bt_leaves.proofs.NextLeaf.{SinkIs, SinksAre}
 use Rattle.bt_ports.specs.declared.outside.Sink as Sink
 use Rattle.bt_ports.specs.declared.parts.Record.{Record}
-use Rattle.bt_sound.specs.Records.{is_of, records_of, LeafTold, PutAt}
+use Rattle.bt_sound.specs.Records.{is_of, records_of, LeafTold, PutOne, PutAt}
 
 last_false : (a b c : Bool) → c ≡ false → (a && (b && c)) ≡ false
 last_false true true c e = e
@@ -44,8 +44,10 @@ none_more true b e = ap one_if e
 none_more false b e = refl
 
 -- a record of something else changes nothing for a leaf
-pub told_apart : {K : Type 0} (g : Sink.Ghosts K) (ks us : List K) (s : ℕ) (r : Record) (ok : Bool) (d : K) (n p j m : ℕ) (x : State) → PutAt g ks us s r ok → is_of n p m r ≡ false → LeafTold g ks d n p j m x → LeafTold g us d n p j m x
-told_apart g ks us s r ok d n p j m x w e h = elim (eqb_tells j s) [
+counts_apart : {K : Type 0} (g : Sink.Ghosts K) (ks us : List K) (s : ℕ) (r : Record) (ok : Bool) (d : K) (n p j m : ℕ) (x : State) → PutAt g ks us s r ok → is_of n p m r ≡ false
+    → (IsTrue (g.tells (get_or ks j d)) → (records_of n p m (g.accepted (get_or ks j d)) ≡ one_if (accepted x)) × (records_of n p m (g.refused (get_or ks j d)) ≡ one_if (refused x)))
+    → IsTrue (g.tells (get_or us j d)) → (records_of n p m (g.accepted (get_or us j d)) ≡ one_if (accepted x)) × (records_of n p m (g.refused (get_or us j d)) ≡ one_if (refused x))
+counts_apart g ks us s r ok d n p j m x w e h = elim (eqb_tells j s) [
   | inl i ↦ (λ t.
       let o = w.one d in
       let t2 : IsTrue (g.tells (get_or us s d)) = subst (λ k. IsTrue (g.tells (get_or us k d))) i.1 t in
@@ -62,6 +64,16 @@ told_apart g ks us s r ok d n p j m x w e h = elim (eqb_tells j s) [
   | inr i ↦ (let q = w.others j d i.1 in rw q h)
 ]
 
+-- no count of faults falls, so a sink without any had none
+no_fault : {K : Type 0} (g : Sink.Ghosts K) (ks us : List K) (s : ℕ) (r : Record) (ok : Bool) (d : K) (j : ℕ) → PutAt g ks us s r ok → g.faults (get_or us j d) ≡ 0 → g.faults (get_or ks j d) ≡ 0
+no_fault g ks us s r ok d j w e = elim (eqb_tells j s) [
+  | inl i ↦ (let o = (w.one d).counted in let f = ap (λ k. g.faults (get_or us k d)) i.1 in let h = ap (λ k. g.faults (get_or ks k d)) i.1 in omega arith)
+  | inr i ↦ sym (ap g.faults (w.others j d i.1)) ∙ e
+]
+
+pub told_apart : {K : Type 0} (g : Sink.Ghosts K) (ks us : List K) (s : ℕ) (r : Record) (ok : Bool) (d : K) (n p j m : ℕ) (x : State) → PutAt g ks us s r ok → is_of n p m r ≡ false → LeafTold g ks d n p j m x → LeafTold g us d n p j m x
+told_apart g ks us s r ok d n p j m x w e h = (counts_apart g ks us s r ok d n p j m x w e h.0, (λ f. h.1 (no_fault g ks us s r ok d j w f)))
+
 counts_put : (ok : Bool) (x : State) (a b : ℕ) → a ≡ one_if (accepted Fresh) → b ≡ one_if (refused Fresh) → a ≡ one_if (accepted x) → b ≡ one_if (refused x)
     → (a + one_if (ok && true) ≡ one_if (accepted (settles (state_for ok) x))) × (b + one_if (not ok && true) ≡ one_if (refused (settles (state_for ok) x)))
 counts_put true Fresh a b e f h k = (omega arith, omega arith)
@@ -69,16 +81,26 @@ counts_put false Fresh a b e f h k = (omega arith, omega arith)
 counts_put ok Good a b e f h k = absurd (omega arith)
 counts_put ok Bad a b e f h k = absurd (omega arith)
 
+-- a record was accepted unless a fault was counted
+refused_put : {K : Type 0} (g : Sink.Ghosts K) (j k : K) (r : Record) (ok : Bool) (x : State) → PutOne g j k r ok → (g.faults j ≡ 0 → refused x ≡ false) → g.faults k ≡ 0 → refused (settles (state_for ok) x) ≡ false
+refused_put g j k r true Fresh o h e = refl
+refused_put g j k r false Fresh o h e = let a = o.failed refl in absurd (omega arith)
+refused_put g j k r ok Good o h e = refl
+refused_put g j k r ok Bad o h e = h (let a = o.counted in omega arith)
+
 told_put : {K : Type 0} (g : Sink.Ghosts K) (ks us : List K) (s : ℕ) (r : Record) (ok : Bool) (d : K) (n p l : ℕ) (x : State) → PutAt g ks us s r ok → is_of n p l r ≡ true → LeafTold g ks d n p s l Fresh → LeafTold g ks d n p s l x
     → LeafTold g us d n p s l (settles (state_for ok) x)
-told_put g ks us s r ok d n p l x w e f h = λ t.
-    let o = w.one d in
-    let a = f (o.told t) in
-    let b = h (o.told t) in
-    let y = ap (records_of n p l) (o.taken t) ∙ of_cond n p l ok (g.accepted (get_or ks s d)) r ∙ ap (λ v. records_of n p l (g.accepted (get_or ks s d)) + one_if (ok && v)) e in
-    let z = ap (records_of n p l) (o.turned t) ∙ of_else n p l ok (g.refused (get_or ks s d)) r ∙ ap (λ v. records_of n p l (g.refused (get_or ks s d)) + one_if (not ok && v)) e in
-    let c = counts_put ok x _ _ a.0 a.1 b.0 b.1 in
-    (y ∙ c.0, z ∙ c.1)
+told_put g ks us s r ok d n p l x w e f h = (
+  (λ t.
+      let o = w.one d in
+      let a = f.0 (o.told t) in
+      let b = h.0 (o.told t) in
+      let y = ap (records_of n p l) (o.taken t) ∙ of_cond n p l ok (g.accepted (get_or ks s d)) r ∙ ap (λ v. records_of n p l (g.accepted (get_or ks s d)) + one_if (ok && v)) e in
+      let z = ap (records_of n p l) (o.turned t) ∙ of_else n p l ok (g.refused (get_or ks s d)) r ∙ ap (λ v. records_of n p l (g.refused (get_or ks s d)) + one_if (not ok && v)) e in
+      let c = counts_put ok x _ _ a.0 a.1 b.0 b.1 in
+      (y ∙ c.0, z ∙ c.1)),
+  refused_put g (get_or ks s d) (get_or us s d) r ok x (w.one d) h.1,
+)
 
 mutual
   pub tree_map : (T U : ℕ → ℕ → State → Type 0) (t : Tree) → ((k m : ℕ) (x : State) → T k m x → U k m x) → EachLeaf T t → EachLeaf U t

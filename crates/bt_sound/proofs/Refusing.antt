@@ -38,8 +38,9 @@ use Rattle.bt_sound.specs.Answers.{RefusedAll, RefusedOne}
 use Rattle.bt_sound.specs.Counting.{answer_with, capped, counts_after}
 use Rattle.bt_sound.proofs.Counting.{counted_more, summed_answer, refusal_counts}
 use Rattle.bt_sound.proofs.Lists.{each_append}
+use Rattle.bt_sound.proofs.Owned.{owned_out}
 use Rattle.bt_sound.proofs.Placing.{placed_range}
-use Rattle.bt_sound.proofs.Taking.{out_answers, out_taken, out_is, out_given, over_out, each_none}
+use Rattle.bt_sound.proofs.Taking.{out_answers, out_taken, out_is, out_given, given_no, over_out, each_none}
 use Rattle.std.proofs.lemmas.List.{append_assoc, append-nil}
 
 for_none : (cs : List AnswerCall) (n i j : ℕ) → j < i → RefusalsFrom n i cs → calls_for n j cs ≡ 0
@@ -136,6 +137,7 @@ sound_refuse gi gk ga gc gd f closed s u k ds h w out r =
         ]),
         x.1.1,
       );
+      owned = λ d. owned_out gk f.releases f.ledger s Free closed _ f.sinks d w (given_no (slot_at f.ledger s) out) (λ k x y. inr y) (h.owned d);
       called = λ t a e. elim (close_cases f.ledger s a Free w) [
         | inl i ↦ (let z : is_free Free ≡ false = ap is_free (sym i.1) ∙ e in cc)
         | inr i ↦ subst (λ y. Called (ga.calls u) (open_in y)) (sym i.1) (subst (λ cs. Called cs (open_in (slot_at f.ledger a))) (sym (r.calls t))

@@ -1,8 +1,9 @@
 -- A step of a part keeps a floor sound.
-use Rattle.std.proofs.Common.{◌≡◌, ◌≢◌, ℕ, zero, suc, ◌+◌, ◌<◌, Bool, true, false, List, [], ◌∷◌, length, inl, inr, arith, refl, sym, ap, ◌∙◌, subst}
+use Rattle.std.proofs.Common.{◌≡◌, ◌≢◌, ℕ, zero, suc, ◌+◌, ◌<◌, Bool, true, false, List, [], ◌∷◌, length, inl, inr, arith, refl, sym, ap, ◌∙◌, subst, Some, None}
 use Rattle.std.specs.List.{AllByRecursion}
 use Rattle.std.proofs.lemmas.Bool.Decides.{eqb_tells}
 use Rattle.bt_chains.specs.declared.Entry.{Entry}
+use Rattle.bt_demand.specs.Find.{bytes_of}
 use Rattle.bt_demand.specs.Holding.{is_open}
 use Rattle.bt_demand.specs.Outcomes.{outcome}
 use Rattle.bt_demand.specs.Parts.{Part, PartsFit}
@@ -17,10 +18,11 @@ use Rattle.bt_demand.specs.declared.demand.State.{State}
 use Rattle.bt_demand.specs.declared.demand.State.TheVariants.{Untried as Fresh}
 use Rattle.bt_demand.proofs.Reached.{next-untouched}
 use Rattle.bt_leaves.specs.EachLeaf.{EachLeaf}
-use Rattle.bt_leaves.proofs.Kept.{leaves_untried}
+use Rattle.bt_leaves.specs.LeafAt.{LeafAt}
+use Rattle.bt_leaves.proofs.Kept.{leaves_untried, flat_untried}
 use Rattle.bt_leaves.proofs.NextLeaf.{to_put_by, to_put_stands, stands_sink}
 use Rattle.bt_ledger.specs.Ledger.{slot_at, part_tree, parts_in, number_in, moment_in, answered_in, items_in, is_free, is_given, open_in, with_part, IsPart}
-use Rattle.bt_ledger.specs.Open.{tree_of, with_tree}
+use Rattle.bt_ledger.specs.Open.{Open, tree_of, with_tree}
 use Rattle.bt_ledger.specs.declared.slot.Slot.TheVariants.{Given}
 use Rattle.bt_ledger.proofs.Room.{part_cases}
 use Rattle.bt_ledger.proofs.Slots.{given_taken, part_taken}
@@ -32,11 +34,13 @@ use Rattle.bt_ports.specs.declared.outside.Intake as Intake
 use Rattle.bt_ports.specs.declared.outside.Sink as Sink
 use Rattle.bt_ports.specs.declared.parts.Record.{Record}
 use Rattle.bt_sound.specs.Answers.{Called, Says}
+use Rattle.bt_sound.specs.Owned.{IsRecordOf, Owned, PutsAs}
 use Rattle.bt_sound.specs.Records.{is_of, LeafTold, Told, PutAt}
 use Rattle.bt_sound.specs.Sound.{in_past, SaysTrue, Unknown, Sound}
 use Rattle.bt_sound.specs.Transactions.{Taken, Planned, Shaped, untried_parts}
 use Rattle.bt_sound.specs.View.{FloorView, Past}
 use Rattle.bt_sound.proofs.Lists.{each_map, each_both}
+use Rattle.bt_sound.proofs.Owned.{puts_next, puts_at, is_step, owned_map, owned_put, untried_at}
 use Rattle.bt_sound.proofs.Placing.{apart_by, gone_by}
 use Rattle.bt_sound.proofs.Puts.{told_apart, tree_map, tree_put, of_itself, of_other}
 use Rattle.bt_sound.proofs.Slots.{stepped_open, step_cases, over_step, over_slot, untried_with, placed_step, planned_with, known_step}
@@ -48,8 +52,9 @@ pub sound_step : {I K A C D : Type 0} (gi : Intake.Ghosts I) (gk : Sink.Ghosts K
     → ((d : K) (a : ℕ) → is_given (slot_at (with_part f.ledger s p t) a) ≡ true → Told gk us d (open_in (slot_at (with_part f.ledger s p t) a)))
     → ((d : K) → AllByRecursion (λ q. Told gk us d q.state) closed)
     → ((d : K) (m b k j : ℕ) → k < length us → Unknown f.ledger closed m → LeafTold gk us d m b k j Fresh)
+    → ((d : K) → Owned gk f.releases (record (with_part f.ledger s p t) { chains = cs }) closed us d)
     → Sound gi gk ga gc gd (record f { ledger = record (with_part f.ledger s p t) { chains = cs }; sinks = us }) closed
-sound_step gi gk ga gc gd f closed s p t cs us h w u o ut n told past unwritten =
+sound_step gi gk ga gc gd f closed s p t cs us h w u o ut n told past unwritten owned =
     let l = f.ledger in
     let g : is_given (slot_at f.ledger s) ≡ true = given_true (slot_at f.ledger s) p w.1 in
     let taken = part_taken (slot_at f.ledger s) p w.1 in
@@ -78,6 +83,7 @@ sound_step gi gk ga gc gd f closed s p t cs us h w u o ut n told past unwritten 
       told = told;
       past_told = past;
       unwritten = λ d m b k j v x. unwritten d m b k j v (known_step f.ledger s p t closed m w x);
+      owned = owned;
       called = λ tells. over_step (λ x. Called (ga.calls f.answerer) x) is_free false f.ledger s p t w taken (λ x. x) (h.called tells);
       past_called = h.past_called;
       says = λ tells. each_map (λ c. SaysTrue f.ledger closed c) (λ c. SaysTrue (record (with_part f.ledger s p t) { chains = cs }) closed c) (ga.calls f.answerer)
@@ -101,18 +107,32 @@ sound_still gi gk ga gc gd f closed s p t cs h w u o ut by =
     ]) (h.told d))
     h.past_told
     h.unwritten
+    (λ d. owned_map gk f.releases f.releases f.ledger (record (with_part f.ledger s p t) { chains = cs }) closed closed f.sinks d (λ k r. is_step f.releases f.ledger s p t cs closed k r w u) (h.owned d))
 
 pub well_formed_at : (k m i : ℕ) (ps : List Part) (p : ℕ) → p < length ps → PartsFit k m i (untried_parts ps) → WellFormed k m (untried (tree_of ps p))
 well_formed_at k m i [] p h f = absurd (omega arith)
 well_formed_at k m i (q ∷ ps) zero h f = f.0.well_formed
 well_formed_at k m i (q ∷ ps) (suc p) h f = well_formed_at k m i ps p (omega arith) f.1
 
+-- the record that is put is its leaf's
+record_put : (rs : List ℕ) (o : Open) (p l k : ℕ) (r : Record) {m n : ℕ} → WellFormed m n (untried (tree_of o.parts p)) → PutsAs rs l k r.batch (tree_of o.parts p) → Some r.bytes ≡ bytes_of l (tree_of o.parts p) → p < length o.parts → r.txn ≡ o.number → r.part ≡ p → r.leaf ≡ l → IsRecordOf rs k o r
+record_put rs o p l k r formed puts bytes w en ep el =
+    let differ : Differ (leaves (tree_of o.parts p)) = subst (λ ls. Differ ls) (leaves_untried (tree_of o.parts p)) formed.leaves_differ in
+    let at = puts_at rs l k r.batch r.bytes (tree_of o.parts p) differ (flat_untried (tree_of o.parts p) formed.holds_flat) bytes puts in
+    record {
+      number = en;
+      over = at.0;
+      leaf = subst (λ q. LeafAt None q k r.bytes at.0 (tree_of (untried_parts o.parts) r.part)) (sym el) (subst (λ q. LeafAt None l k r.bytes at.0 (tree_of (untried_parts o.parts) q)) (sym ep) (subst (λ t. LeafAt None l k r.bytes at.0 t) (sym (untried_at o.parts p w)) at.1.0));
+      batch = at.1.1;
+    }
+
 -- a leaf that is put
 pub sound_put : {I K A C D : Type 0} (gi : Intake.Ghosts I) (gk : Sink.Ghosts K) (ga : Answerer.Ghosts A) (gc : Clock.Ghosts C) (gd : Derive.Ghosts D) (f : FloorView I K A C D) (closed : List Past) (s p lf k : ℕ) (r : Record) (ok : Bool) (us : List K)
-    → Sound gi gk ga gc gd f closed → IsPart f.ledger s p → IsNext lf k (part_tree f.ledger s p) → PutAt gk f.sinks us k r ok → r.txn ≡ number_in (slot_at f.ledger s) → r.part ≡ p → r.leaf ≡ lf
+    → Sound gi gk ga gc gd f closed → IsPart f.ledger s p → PutsAs f.releases lf k r.batch (part_tree f.ledger s p) → Some r.bytes ≡ bytes_of lf (part_tree f.ledger s p) → PutAt gk f.sinks us k r ok → r.txn ≡ number_in (slot_at f.ledger s) → r.part ≡ p → r.leaf ≡ lf
     → untried (settle lf (state_for ok) (part_tree f.ledger s p)) ≡ untried (part_tree f.ledger s p) → is_open (outcome (part_tree f.ledger s p)) ≡ true
     → Sound gi gk ga gc gd (record f { ledger = with_part f.ledger s p (settle lf (state_for ok) (part_tree f.ledger s p)); sinks = us }) closed
-sound_put gi gk ga gc gd f closed s p lf k r ok us h w next put en ep el u o =
+sound_put gi gk ga gc gd f closed s p lf k r ok us h w puts bytes put en ep el u o =
+    let next : IsNext lf k (part_tree f.ledger s p) = puts_next f.releases lf k r.batch (part_tree f.ledger s p) puts in
     let t = settle lf (state_for ok) (part_tree f.ledger s p) in
     let n = number_in (slot_at f.ledger s) in
     let g : is_given (slot_at f.ledger s) ≡ true = given_true (slot_at f.ledger s) p w.1 in
@@ -142,3 +162,5 @@ sound_put gi gk ga gc gd f closed s p lf k r ok us h w next put en ep el u o =
     (λ z m v c. told_apart gk f.sinks us k r ok d q.state.number b z m v put (of_other q.state.number b m r (λ e i. y (sym e ∙ en))) c) (x b))
     (h.past_told d) (gone_by f.ledger.slots closed (number_in (slot_at f.ledger s)) _ s (h.placed (number_in (slot_at f.ledger s))) taken refl))
     (λ d m b z j v x. told_apart gk f.sinks us k r ok d m b z j Fresh put (of_other m b j r (λ e _. x.0 s g (sym en ∙ e))) (h.unwritten d m b z j (let q = put.same in omega arith) x))
+    (λ d. owned_map gk f.releases f.releases f.ledger (with_part f.ledger s p (settle lf (state_for ok) (part_tree f.ledger s p))) closed closed us d (λ j x. is_step f.releases f.ledger s p (settle lf (state_for ok) (part_tree f.ledger s p)) f.ledger.chains closed j x w u)
+    (owned_put gk f.releases f.ledger closed f.sinks us k r ok d put (inl (s, (g, record_put f.releases (open_in (slot_at f.ledger s)) p lf k r formed puts bytes w.1 en ep el))) (h.owned d)))

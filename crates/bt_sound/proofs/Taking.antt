@@ -32,12 +32,14 @@ use Rattle.bt_sound.specs.Counting.{AnswersCounted, ReleasesSum}
 use Rattle.bt_sound.specs.Course.{Course}
 use Rattle.bt_sound.proofs.Course.{TakesNext, Stops, next_later, next_is, course_next, stop_later, course_stop, taken_later, planned_later}
 use Rattle.bt_ports.specs.declared.parts.Next.{Next}
+use Rattle.bt_sound.specs.Owned.{IsOwned}
 use Rattle.bt_sound.specs.Records.{records_of, LeafTold, Told}
 use Rattle.bt_sound.specs.Sound.{here, in_slots, SaysTrue, Unknown, Sound}
 use Rattle.bt_sound.specs.Transactions.{Taken, Planned, Derived, Shaped, WasTaken, untried_parts, given_open}
 use Rattle.bt_sound.specs.View.{FloorView, Past}
 use Rattle.bt_sound.proofs.Answered.{for_other, and_no}
 use Rattle.bt_sound.proofs.Lists.{each_map, each_both}
+use Rattle.bt_sound.proofs.Owned.{owned_out}
 use Rattle.bt_sound.proofs.Placing.{in_slots_set, apart_by, gone_by}
 use Rattle.bt_sound.proofs.Slots.{close_cases, over_slot, over_trees, yes_no}
 
@@ -78,6 +80,11 @@ pub out_is : (x : Slot) → IsOut x → is_out x ≡ true
 out_is Free h = absurd h
 out_is (Out n m i) h = refl
 out_is (Given o) h = absurd h
+
+pub given_no : (x : Slot) → IsOut x → is_given x ≡ false
+given_no Free h = absurd h
+given_no (Out n m i) h = refl
+given_no (Given o) h = absurd h
 
 pub out_given : (x : Slot) → IsOut x → is_given x ≡ true → ⊥
 out_given Free h e = absurd h
@@ -188,6 +195,7 @@ sound_take gi gk ga gc gd f closed s i c t h w free goes next =
         ]),
         y.1,
       );
+      owned = λ d. owned_out gk f.releases f.ledger s (Out (f.outside.taken + 1) t.moment (length t.items.list)) closed closed f.sinks d w (ap is_given free) (λ k x y. y) (h.owned d);
       called = λ tells a e. elim (close_cases f.ledger s a (Out (f.outside.taken + 1) t.moment (length t.items.list)) w) [
         | inl u ↦ subst (λ y. Called (ga.calls f.answerer) (open_in y)) (sym u.1) (λ j. none_above (ga.calls f.answerer) (f.outside.taken + 1) j f.outside.taken (omega arith) (h.no_other tells))
         | inr u ↦ subst (λ y. Called (ga.calls f.answerer) (open_in y)) (sym u.1) (h.called tells a (ap is_free (sym u.1) ∙ e))
@@ -217,6 +225,7 @@ sound_stop gi gk ga gc gd f closed i r s h =
       told = h.told;
       past_told = h.past_told;
       unwritten = h.unwritten;
+      owned = h.owned;
       called = h.called;
       past_called = h.past_called;
       says = h.says;
@@ -285,6 +294,7 @@ sound_give gi gk ga gc gd f closed s ps h w out fit derived =
         ]),
         x.1,
       );
+      owned = λ d. owned_out gk f.releases f.ledger s (Given (given_open (slot_at f.ledger s) ps)) closed closed f.sinks d w (given_no (slot_at f.ledger s) out) (λ k x y. y) (h.owned d);
       called = λ tells. over_give (λ x. Called (ga.calls f.answerer) x) is_free false f.ledger s (given_open (slot_at f.ledger s) ps) w (λ a _ e. h.called tells a e) (called tells);
       past_called = h.past_called;
       says = λ tells. says_given (ga.calls f.answerer) f.ledger s closed (given_open (slot_at f.ledger s) ps) w refl (h.says tells) (each_none (ga.calls f.answerer) (number_in (slot_at f.ledger s)) (λ i. called tells i ∙ ap one_if (none_in i (items_in (slot_at f.ledger s)))));
@@ -334,7 +344,8 @@ sound_make gi gk ga gc gd f w es ep ek er few wide en et course uncounted summed
       untouched = λ s p. subst (λ x. Untouched (tree_of (parts_in x) p)) (sym (free s)) tt;
       told = λ d s e. absurd (none_at s e);
       past_told = λ d. tt;
-      unwritten = λ d n p k l v _ t. (let u = unwritten d k v t in (ap (records_of n p l) u.0, ap (records_of n p l) u.1));
+      unwritten = λ d n p k l v _. ((λ t. (let u = unwritten d k v t in (ap (records_of n p l) u.0, ap (records_of n p l) u.1))), (λ _. refl));
+      owned = λ d k v t. (let u = unwritten d k v t in record { accepted = subst (λ rs. AllByRecursion (λ r. IsOwned f.releases f.ledger [] k r) rs) (sym u.0) tt; refused = subst (λ rs. AllByRecursion (λ r. IsOwned f.releases f.ledger [] k r) rs) (sym u.1) tt });
       called = λ t s e. (let z : is_free Free ≡ false = ap is_free (sym (free s)) ∙ e in cc);
       past_called = λ t. tt;
       says = λ t. subst (λ cs. AllByRecursion (λ c. SaysTrue f.ledger [] c) cs) (sym (unanswered t)) tt;

@@ -19,9 +19,12 @@ records_of n p l [] = 0
 records_of n p l (r ∷ rs) = one_if (is_of n p l r) + records_of n p l rs
 
 -- What a leaf of sink k in that state has there, where the sink tells: one accepted record and none refused where it is
--- Good, one refused and none accepted where it is Bad, and none where it is Untried.
+-- Good, one refused and none accepted where it is Bad, and none where it is Untried. It is Bad only where the sink counted
+-- a fault.
 abbrev pub LeafTold : {K : Type 0} → Sink.Ghosts K → List K → K → ℕ → ℕ → ℕ → ℕ → State → Type 0
-LeafTold g ks d n p k l x = IsTrue (g.tells (get_or ks k d)) → (records_of n p l (g.accepted (get_or ks k d)) ≡ one_if (accepted x)) × (records_of n p l (g.refused (get_or ks k d)) ≡ one_if (refused x))
+LeafTold g ks d n p k l x =
+    (IsTrue (g.tells (get_or ks k d)) → (records_of n p l (g.accepted (get_or ks k d)) ≡ one_if (accepted x)) × (records_of n p l (g.refused (get_or ks k d)) ≡ one_if (refused x)))
+    × (g.faults (get_or ks k d) ≡ 0 → refused x ≡ false)
 
 -- each leaf of each part of a transaction has the records of its state at its own sink
 abbrev pub Told : {K : Type 0} → Sink.Ghosts K → List K → K → Open → Type 0

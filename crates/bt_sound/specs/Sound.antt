@@ -17,6 +17,7 @@ use Rattle.bt_ports.specs.declared.parts.AnswerCall.{AnswerCall}
 use Rattle.bt_sound.specs.Answers.{Called, Says, PastSays}
 use Rattle.bt_sound.specs.Counting.{AnswersCounted, ReleasesSum}
 use Rattle.bt_sound.specs.Course.{Course}
+use Rattle.bt_sound.specs.Owned.{Owned}
 use Rattle.bt_sound.specs.Records.{LeafTold, Told}
 use Rattle.bt_sound.specs.Transactions.{Taken, Planned, Shaped, WasTaken}
 use Rattle.bt_sound.specs.View.{FloorView, Past}
@@ -65,6 +66,8 @@ pub record Sound {I K A C D : Type 0} (gi : Intake.Ghosts I) (gk : Sink.Ghosts K
   pub told : (d : K) (s : ℕ) → is_given (slot_at f.ledger s) ≡ true → Told gk f.sinks d (open_in (slot_at f.ledger s))
   pub past_told : (d : K) → AllByRecursion (λ p. Told gk f.sinks d p.state) closed
   pub unwritten : (d : K) (n p k l : ℕ) → k < length f.sinks → Unknown f.ledger closed n → LeafTold gk f.sinks d n p k l Untried
+  -- each record is one of a leaf of the plan: its sink, its bytes, and a batch number that fits the hold over it
+  pub owned : (d : K) → Owned gk f.releases f.ledger closed f.sinks d
   -- each item has one call where it is answered, else none; a call says what the parts say; all calls are of these
   pub called : IsTrue (ga.tells f.answerer) → (s : ℕ) → is_free (slot_at f.ledger s) ≡ false → Called (ga.calls f.answerer) (open_in (slot_at f.ledger s))
   pub past_called : IsTrue (ga.tells f.answerer) → AllByRecursion (λ p. Called (ga.calls f.answerer) p.state) closed

@@ -1,4 +1,4 @@
-use Rattle.std.proofs.Common.{◌≡◌, ℕ, zero, suc, List, refl, sym, ap, ◌∙◌}
+use Rattle.std.proofs.Common.{ap, ◌∙◌}
 use Rattle.bt_chains.specs.Places.{Places, total_length}
 use Rattle.bt_floor.proofs.Empty.{none_chained}
 use Rattle.bt_floor.proofs.making.take_room.Goals as goal

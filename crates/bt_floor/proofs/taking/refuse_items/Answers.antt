@@ -1,4 +1,4 @@
-use Rattle.std.proofs.Common.{List, [], ◌∷◌, ◌++◌}
+use Rattle.std.proofs.Common.{[], ◌∷◌, ◌++◌}
 use Rattle.bt_sound.proofs.Refusing.{refused_none, refused_more}
 use Rattle.bt_floor.proofs.taking.refuse_items.Goals as goal
 

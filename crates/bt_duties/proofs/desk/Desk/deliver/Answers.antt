@@ -1,10 +1,9 @@
-use Rattle.std.proofs.Common.{◌≡◌, ◌≢◌, ℕ, ◌+◌, ◌<◌, ◌≤◌, arith, refl, sym, ap, ◌∙◌, subst, length, IsSome, IfOk, Option, None, true, false}
+use Rattle.std.proofs.Common.{◌≢◌, ◌<◌, sym, subst, length, IfOk}
 use Rattle.bt_duties.specs.DeskView.{DeskView}
-use Rattle.bt_duties.specs.Duties.{AllIdle, duty_at}
+use Rattle.bt_duties.specs.Duties.{duty_at}
 use Rattle.bt_demand.specs.Parts.{parts_of}
 use Rattle.bt_duties.specs.declared.duty.Duty.{Duty}
-use Rattle.bt_duties.proofs.Duties.{out_there}
-use Rattle.bt_duties.proofs.Standings.{out_is, standing_delivered}
+use Rattle.bt_duties.proofs.Standings.{standing_delivered}
 use Rattle.bt_ledger.specs.Ledger.{slot_at, number_in}
 use Rattle.bt_moves.specs.Moves.{Delivered}
 use Rattle.bt_sound.specs.Transactions.{Derived}

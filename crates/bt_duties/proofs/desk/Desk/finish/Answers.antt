@@ -1,6 +1,6 @@
-use Rattle.std.proofs.Common.{◌≡◌, ◌≢◌, ℕ, ◌+◌, ◌<◌, ◌≤◌, arith, refl, sym, ap, ◌∙◌, subst, length, IsSome, IfOk, Option, None, true, false}
+use Rattle.std.proofs.Common.{sym, subst, IsSome, true}
 use Rattle.bt_duties.specs.DeskView.{DeskView}
-use Rattle.bt_duties.specs.Duties.{AllIdle, duty_at}
+use Rattle.bt_duties.specs.Duties.{AllIdle}
 use Rattle.bt_duties.proofs.Standings.{standing_flushed}
 use Rattle.bt_duties.proofs.desk.Desk.finish.Goals as goal
 

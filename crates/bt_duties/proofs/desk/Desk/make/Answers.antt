@@ -1,4 +1,4 @@
-use Rattle.std.proofs.Common.{◌≡◌, ◌≢◌, ℕ, ◌+◌, ◌<◌, ◌≤◌, arith, refl, sym, ap, ◌∙◌, subst, length, IsSome, IfOk, Option, None, true, false}
+use Rattle.std.proofs.Common.{sym, subst, false}
 use Rattle.std.proofs.Common.{List}
 use Rattle.bt_duties.specs.Standing.{Standing}
 use Rattle.bt_duties.specs.declared.duty.Duty.{Duty}

@@ -1,8 +1,8 @@
-use Rattle.std.proofs.Common.{◌≡◌, ◌≢◌, ℕ, ◌+◌, ◌<◌, ◌≤◌, arith, refl, sym, ap, ◌∙◌, subst, length, IsSome, IfOk, Option, None, true, false}
+use Rattle.std.proofs.Common.{◌≡◌, ◌≢◌, arith, refl, sym, ◌∙◌, subst}
 use Rattle.bt_duties.specs.DeskView.{DeskView}
-use Rattle.bt_duties.specs.Duties.{AllIdle, duty_at}
+use Rattle.bt_duties.specs.Duties.{duty_at}
 use Rattle.bt_duties.proofs.Standings.{any_out, none_busy, place_flushed}
-use Rattle.bt_ledger.specs.Ledger.{Ledger, opened}
+use Rattle.bt_ledger.specs.Ledger.{opened}
 use Rattle.bt_duties.proofs.desk.Desk.make_place.Goals as goal
 
 pub returns-then-is_out-clause-full : goal.returns-then-is_out-clause-full

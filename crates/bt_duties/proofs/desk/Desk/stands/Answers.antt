@@ -1,4 +1,4 @@
-use Rattle.std.proofs.Common.{◌≡◌, ◌≤◌, arith, ap, subst}
+use Rattle.std.proofs.Common.{arith, subst}
 use Rattle.bt_duties.specs.DeskView.{DeskView}
 use Rattle.bt_duties.specs.Stands.{IsStanding}
 use Rattle.bt_duties.proofs.Duties.{few_opened}

@@ -1,35 +1,29 @@
-use Rattle.std.proofs.Common.{◌≡◌, ◌≢◌, ℕ, ◌+◌, ◌<◌, ◌≤◌, arith, refl, sym, ap, ◌∙◌, subst, List, length, set, get_or, Option, Some, None, true, false, IsTrue, Bool, inl, inr}
-use Rattle.bt_demand.specs.Find.{begun, below}
-use Rattle.bt_demand.specs.Flushing.{Still}
+use Rattle.std.proofs.Common.{◌≡◌, arith, refl, sym, ap, ◌∙◌, subst, Some, true, inl}
+use Rattle.bt_demand.specs.Find.{begun}
 use Rattle.bt_demand.specs.Next.{todo}
-use Rattle.bt_demand.specs.Steps.{settle, wait, release, state_for}
-use Rattle.bt_demand.specs.declared.todo.Todo.TheVariants.{Put, Wait, Settled}
-use Rattle.bt_ledger.specs.Calls.{waited, entry_of}
-use Rattle.bt_ledger.specs.Due.{LeastDue, unanswered}
-use Rattle.bt_ledger.specs.Ledger.{Ledger, slot_at, part_tree, parts_in, is_given, IsPart, IsGiven, Roomy, with_part, with_slot, open_in, answered_in, chain_at}
-use Rattle.bt_ledger.specs.declared.slot.Slot.{Slot}
-use Rattle.bt_ledger.specs.declared.slot.Slot.TheVariants.{Free, Out, Given}
-use Rattle.bt_demand.specs.Reached.{NextIn}
-use Rattle.bt_moves.specs.Moves.{left_to_do, Keeps, KeepsBut, StepAt, Answering, Popped}
-use Rattle.bt_moves.specs.Resting.{AtRest}
+use Rattle.bt_demand.specs.Steps.{settle, state_for}
+use Rattle.bt_demand.specs.declared.todo.Todo.TheVariants.{Put}
+use Rattle.bt_ledger.specs.Ledger.{slot_at, part_tree, is_given}
+use Rattle.bt_moves.specs.Moves.{left_to_do, StepAt}
 use Rattle.bt_demand.proofs.Flushing.{late_next}
-use Rattle.bt_moves.proofs.Keeping.{but_same, but_step, but_keeps, but_closes, keeps_same, keeps_joins, keeps_but, closed_quiet, closed_rest, begun_room, part_stays, given_true, but_joins}
-use Rattle.bt_moves.proofs.Moves.{step_with, step_same, step_joins, part_with, put_falls, wait_falls, popped, answering_same, answering_joins, answering_with, answering_tree, but_answering, closes_but, closed_free, closed_left, below_falls}
-use Rattle.bt_leaves.proofs.Begun.{put_begins, wait_begins}
-use Rattle.bt_leaves.proofs.Kept.{begun_step}
-use Rattle.bt_leaves.proofs.NextLeaf.{below_bytes}
-use Rattle.bt_moves.specs.Moves.{AllLate, LateKeeps, LateKeepsBut, PopKeepsLate}
-use Rattle.bt_moves.proofs.Lateness.{late_same, late_joins, but_same_late, but_joins_late, keeps_but_late, above_keeps, late_put, late_wait, late_pop, late_answering, late_close}
+use Rattle.bt_moves.proofs.Keeping.{but_step, but_keeps, but_closes, keeps_but, begun_room, part_stays}
+use Rattle.bt_moves.proofs.Moves.{step_with, put_falls}
+use Rattle.bt_leaves.proofs.Begun.{put_begins}
+use Rattle.bt_moves.specs.Moves.{LateKeepsBut}
+use Rattle.bt_moves.proofs.Lateness.{late_joins, but_joins_late, keeps_but_late, above_keeps, late_put}
 use Rattle.bt_moves.proofs.Outs.{outs_step, outs_joins}
 use Rattle.bt_moves.proofs.Beginning.{fresh_over}
 use Rattle.bt_moves.proofs.Ripening.{calms_put, calms_but, empty_unripe}
+use Rattle.bt_moves.proofs.Settling.{settled_put}
+use Rattle.bt_sound.specs.Owned.{BatchFits}
+use Rattle.bt_sound.proofs.Owned.{fits_later, rise_same, rise_joins}
 use Rattle.bt_floor.proofs.floor.Floor.+settling.Goals as goal
 
-pub settle_part-put-accepted-requires-clause-next : goal.settle_part-put-accepted-requires-clause-next
-settle_part-put-accepted-requires-clause-next g t c =
+pub settle_part-put-accepted-requires-clause-puts : goal.settle_part-put-accepted-requires-clause-puts
+settle_part-put-accepted-requires-clause-puts g t c =
     let l = c.loop-self.self.ledger in
     let next : todo (part_tree l c.args.slot c.args.part) ≡ Some (Put c.in-Some-Put.leaf c.in-Some-Put.sink) = sym c.next.ensures.next ∙ c.in-Some-Put.is ∙ ap Some c.in-Some-Put.field-0-is in
-    λ κs within. inl next
+    λ κs within. inl ((c.loop-self.invariant.settled c.args.slot c.args.part, next), refl)
 
 pub settle_part-loop-self-smaller-in-Put-1 : goal.settle_part-loop-self-smaller-in-Put-1
 settle_part-loop-self-smaller-in-Put-1 g t c =
@@ -58,6 +52,8 @@ settle_part-loop-self-preserved-in-Put-1 g t c =
       fresh = λ a b d f. ap begun (step.trees a b d) ∙ c.loop-self.invariant.fresh a b d f;
       outs = outs_joins c.args.self.now.ledger l c.put-accepted.new.self.ledger c.loop-self.invariant.outs (outs_step c.args.slot c.args.part l c.put-accepted.new.self.ledger step);
       calm = λ n h. rw e (calms_put l c.args.slot c.args.part c.in-Some-Put.leaf c.put-accepted.result part n (c.loop-self.invariant.calm n h));
+      settled = rw e (settled_put l c.args.slot c.args.part c.in-Some-Put.leaf c.put-accepted.result part c.loop-self.invariant.settled);
+      rise = rise_same c.args.self.now.releases c.loop-self.self.releases c.put-accepted.new.self.releases c.loop-self.invariant.rise c.put-accepted.ensures.releases;
       outside = c.put-accepted.ensures.outside ∙ c.loop-self.invariant.outside;
       no_more = omega arith;
     }
@@ -75,6 +71,8 @@ settle_part-loop-self-preserved-in-Some g t c =
       outs = outs_joins c.args.self.now.ledger c.loop-self.self.ledger c.release.new.self.ledger c.loop-self.invariant.outs (outs_joins c.loop-self.self.ledger c.wait.new.self.ledger c.release.new.self.ledger (outs_step c.args.slot c.args.part c.loop-self.self.ledger c.wait.new.self.ledger c.wait.ensures.step) c.release.ensures.outs);
       calm = λ n h. calms_but c.in-Some-Wait.node c.loop-self.self.ledger c.release.new.self.ledger (λ j d x. c.release.ensures.calm j (c.wait.ensures.calm j d x)) (empty_unripe c.release.new.self.ledger c.in-Some-Wait.node c.release.ensures.empties) n (c.loop-self.invariant.calm n h);
       outside = c.release.ensures.outside ∙ c.wait.ensures.outside ∙ c.loop-self.invariant.outside;
+      settled = c.release.ensures.settled;
+      rise = rise_joins c.args.self.now.releases c.wait.new.self.releases c.release.new.self.releases (rise_same c.args.self.now.releases c.loop-self.self.releases c.wait.new.self.releases c.loop-self.invariant.rise c.wait.ensures.releases) c.release.ensures.rise;
       room = λ e. begun_room c.release.new.self.ledger c.args.slot c.args.part ((c.release.ensures.others.stays c.args.slot e).2 c.args.part c.wait.ensures.step.begins);
       no_more = omega arith;
     }
@@ -99,6 +97,9 @@ release-loop-entry-preserved g t c =
       fresh = λ a b f. fresh_over s p m k z step.begins c.settle_child.ensures.step c.settle_part.ensures.fresh a b (c.in-Some.ensures.fresh a b (c.loop-entry.invariant.fresh a b f));
       outs = outs_joins a l z c.loop-entry.invariant.outs (outs_joins l m z (outs_step s p l m step) (outs_joins m k z (outs_step s p m k c.settle_child.ensures.step) c.settle_part.ensures.outs));
       calm = λ n h. c.settle_part.ensures.calm n (c.settle_child.ensures.calm n (c.in-Some.ensures.calm n (c.loop-entry.invariant.calm n h)));
+      settled = c.settle_part.ensures.settled;
+      rise = rise_joins c.begin_release-batch.new.self.releases c.settle_child.new.self.releases c.settle_part.new.self.releases (rise_same c.begin_release-batch.new.self.releases c.pop.new.self.releases c.settle_child.new.self.releases (rise_same c.begin_release-batch.new.self.releases c.loop-entry.self.releases c.pop.new.self.releases c.loop-entry.invariant.rise c.in-Some.ensures.releases) c.settle_child.ensures.releases) c.settle_part.ensures.rise;
+      fits = fits_later c.settle_child.new.self.releases c.settle_part.new.self.releases (Some c.args.node) c.begin_release-batch.result c.settle_part.ensures.rise (subst (λ rs. BatchFits rs (Some c.args.node) c.begin_release-batch.result) (sym (c.settle_child.ensures.releases ∙ c.in-Some.ensures.releases)) c.loop-entry.invariant.fits);
       outside = c.settle_part.ensures.outside ∙ c.settle_child.ensures.outside ∙ c.in-Some.ensures.outside ∙ c.loop-entry.invariant.outside;
       no_more = omega arith;
     }
@@ -111,6 +112,8 @@ settle_part-loop-self-preserved g t c =
     record {
       others = but_step c.args.slot c.args.part c.args.self.now.ledger _ _ c.loop-self.invariant.others c.wait.ensures.step;
       late = λ b n. late_joins n c.args.self.now.ledger c.loop-self.self.ledger c.wait.new.self.ledger (c.loop-self.invariant.late b n) (c.wait.ensures.late ((c.loop-self.invariant.others.stays c.args.slot given).2 c.args.part b) n);
+      settled = c.wait.ensures.settled c.loop-self.invariant.settled;
+      rise = rise_same c.args.self.now.releases c.loop-self.self.releases c.wait.new.self.releases c.loop-self.invariant.rise c.wait.ensures.releases;
       room = λ e. begun_room c.wait.new.self.ledger c.args.slot c.args.part c.wait.ensures.step.begins;
       fresh = λ a b d f. ap begun (c.wait.ensures.step.trees a b d) ∙ c.loop-self.invariant.fresh a b d f;
       outs = outs_joins c.args.self.now.ledger c.loop-self.self.ledger c.wait.new.self.ledger c.loop-self.invariant.outs (outs_step c.args.slot c.args.part c.loop-self.self.ledger c.wait.new.self.ledger c.wait.ensures.step);

@@ -1,8 +1,10 @@
-use Rattle.std.proofs.Common.{◌≡◌, ℕ, ◌+◌, ◌<◌, ◌≤◌, ◌*◌, length, IsTrue, true}
+use Rattle.std.proofs.Common.{◌≡◌, ℕ, ◌+◌, ◌≤◌, ◌*◌, Some, true}
 use Rattle.bt_demand.specs.Find.{begun}
 use Rattle.bt_moves.specs.Moves.{Keeps, KeepsBut, left_to_do, LateKeeps, LateKeepsBut}
-use Rattle.bt_ledger.specs.Ledger.{part_tree, IsPart, Roomy, slot_at, is_given, Ledger}
+use Rattle.bt_ledger.specs.Ledger.{part_tree, Roomy, slot_at, is_given}
 use Rattle.bt_moves.specs.Moves.{RipensNone, BeginsNone, BeginsBut, OutStays}
+use Rattle.bt_moves.specs.Resting.{AllSettled}
+use Rattle.bt_sound.specs.Owned.{BatchFits, ReleasesRise}
 use Rattle.bt_floor.proofs.floor.Floor.+settling.Given as goal
 
 abbrev pub decreases-release : goal.decreases-release
@@ -16,6 +18,9 @@ invariant-release-loop-entry g l = record {
   others : Keeps l.initial.self.ledger l.self.ledger;
   late : (n : ℕ) → n ≤ l.node → LateKeepsBut l.node n l.initial.self.ledger l.self.ledger;
   fresh : BeginsNone l.initial.self.ledger l.self.ledger;
+  settled : AllSettled l.self.ledger;
+  rise : ReleasesRise l.initial.self.releases l.self.releases;
+  fits : BatchFits l.self.releases (Some l.node) l.batch;
   outs : OutStays l.initial.self.ledger l.self.ledger;
   calm : RipensNone l.initial.self.ledger l.self.ledger;
   outside : l.self.outside ≡ l.initial.self.outside;
@@ -31,6 +36,8 @@ invariant-settle_part-loop-self g l = record {
   late : begun (part_tree l.initial.self.ledger l.slot l.part) ≡ true → (n : ℕ) → LateKeeps n l.initial.self.ledger l.self.ledger;
   room : is_given (slot_at l.self.ledger l.slot) ≡ true → Roomy l.self.ledger l.slot l.part;
   fresh : BeginsBut l.slot l.part l.initial.self.ledger l.self.ledger;
+  settled : AllSettled l.self.ledger;
+  rise : ReleasesRise l.initial.self.releases l.self.releases;
   outs : OutStays l.initial.self.ledger l.self.ledger;
   calm : RipensNone l.initial.self.ledger l.self.ledger;
   outside : l.self.outside ≡ l.initial.self.outside;

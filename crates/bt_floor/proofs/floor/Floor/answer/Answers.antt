@@ -1,6 +1,6 @@
-use Rattle.std.proofs.Common.{◌≡◌, ℕ, ◌+◌, ◌<◌, ◌≤◌, arith, refl, sym, ap, ◌∙◌, subst, length, set, get_or, Some, true, false, Bool, IsTrue}
+use Rattle.std.proofs.Common.{◌≡◌, ℕ, arith, refl, sym, ap, ◌∙◌, subst, set, Some, true}
 use Rattle.bt_ledger.specs.Due.{LeastDue, unanswered}
-use Rattle.bt_ledger.specs.Ledger.{Ledger, slot_at, parts_in, is_given, IsGiven, with_slot, open_in, answered_in}
+use Rattle.bt_ledger.specs.Ledger.{slot_at, IsGiven, open_in, answered_in}
 use Rattle.bt_ledger.specs.declared.slot.Slot.TheVariants.{Given}
 use Rattle.bt_ledger.proofs.Answering.{unanswered_set}
 use Rattle.std.proofs.Common.{get_or-set_same}

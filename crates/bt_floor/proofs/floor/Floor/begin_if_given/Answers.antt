@@ -1,7 +1,4 @@
-use Rattle.std.proofs.Common.{◌≡◌, ℕ, ◌+◌, ◌<◌, refl, sym, ◌∙◌, length, true, false}
-use Rattle.bt_ledger.specs.Ledger.{Ledger, slot_at, is_given, IsPart}
-use Rattle.bt_moves.specs.Resting.{Delivering}
-use Rattle.bt_moves.proofs.Keeping.{stays_same}
+use Rattle.std.proofs.Common.{sym, ◌∙◌}
 use Rattle.bt_moves.proofs.Delivering.{delivering_closed}
 use Rattle.bt_floor.proofs.floor.Floor.begin_if_given.Goals as goal
 

@@ -1,5 +1,5 @@
-use Rattle.std.proofs.Common.{◌≡◌, ℕ, ◌<◌, refl, sym, ap, ◌∙◌, subst, length, IsTrue, true}
-use Rattle.bt_ledger.specs.Ledger.{Ledger, slot_at, is_given, IsGiven, answered_in}
+use Rattle.std.proofs.Common.{◌≡◌, sym, ap, subst}
+use Rattle.bt_ledger.specs.Ledger.{slot_at, IsGiven, answered_in}
 use Rattle.bt_ledger.specs.Due.{unanswered}
 use Rattle.bt_sound.specs.View.{FloorView}
 use Rattle.bt_sound.proofs.Answered.{sound_close}

@@ -1,15 +1,16 @@
-use Rattle.std.proofs.Common.{◌≡◌, ℕ, ◌<◌, ◌≤◌, arith, refl, sym, ap, ◌∙◌, subst, length, true, false, get_or-set_same, length-set}
+use Rattle.std.proofs.Common.{◌≡◌, arith, sym, ap, ◌∙◌, subst, length, false, length-set}
 use Rattle.bt_demand.specs.Find.{begun}
 use Rattle.bt_demand.specs.Parts.{parts_of}
-use Rattle.bt_ledger.specs.Ledger.{Ledger, slot_at, is_given, IsGiven, part_tree, parts_in, with_slot}
+use Rattle.bt_ledger.specs.Ledger.{Ledger, slot_at, IsGiven, part_tree, parts_in}
 use Rattle.bt_ledger.specs.Open.{tree_of}
-use Rattle.bt_ledger.specs.declared.slot.Slot.{Slot}
-use Rattle.bt_ledger.specs.declared.slot.Slot.TheVariants.{Free, Given}
+use Rattle.bt_ledger.specs.declared.slot.Slot.TheVariants.{Given}
 use Rattle.bt_sound.specs.Transactions.{given_open}
 use Rattle.bt_moves.proofs.Giving.{none_behind, after_give, closed_rests, given_here, given_slot}
 use Rattle.bt_sound.proofs.Taking.{fresh_at}
 use Rattle.bt_moves.specs.Moves.{OutStays}
 use Rattle.bt_moves.proofs.Outs.{outs_joins}
+use Rattle.bt_moves.specs.Resting.{AllSettled}
+use Rattle.bt_moves.proofs.Settling.{give_settled}
 use Rattle.bt_floor.proofs.floor.Floor.deliver_routes.Goals as goal
 
 pub finish_part-requires-clause-given : goal.finish_part-requires-clause-given
@@ -20,7 +21,7 @@ deliver-requires-clause-quiet g c =
     let m = c.give.new.self.ledger in
     let k = c.finish_part.new.self.ledger in
     let a = after_give c.args.self.now.ledger c.give.new.self.ledger c.finish_part.new.self.ledger c.args.slot (length (parts_in (slot_at c.give.new.self.ledger c.args.slot))) _ c.requires.resting c.give.ensures.ledger c.give.ensures.calm
-    (c.finish_part.ensures.others (length (parts_in (slot_at c.give.new.self.ledger c.args.slot))) (none_behind c.give.new.self.ledger c.args.slot)) c.finish_part.ensures.rest c.finish_part.ensures.calm in
+    (c.finish_part.ensures.others (length (parts_in (slot_at c.give.new.self.ledger c.args.slot))) (none_behind c.give.new.self.ledger c.args.slot)) c.finish_part.ensures.rest c.finish_part.ensures.calm (c.finish_part.ensures.settled (subst (λ k. AllSettled k) (sym c.give.ensures.ledger) (give_settled c.args.self.now.ledger c.args.slot (given_open (slot_at c.args.self.now.ledger c.args.slot) (parts_of c.args.routes.parts.list)) c.requires.within (λ b. fresh_at _ _ _ (parts_of c.args.routes.parts.list) b c.requires.fits) c.requires.resting.settled))) in
     λ κs within. a.quiet
 
 pub deliver-requires-clause-rest : goal.deliver-requires-clause-rest
@@ -28,15 +29,18 @@ deliver-requires-clause-rest g c =
     let m = c.give.new.self.ledger in
     let k = c.finish_part.new.self.ledger in
     let a = after_give c.args.self.now.ledger c.give.new.self.ledger c.finish_part.new.self.ledger c.args.slot (length (parts_in (slot_at c.give.new.self.ledger c.args.slot))) _ c.requires.resting c.give.ensures.ledger c.give.ensures.calm
-    (c.finish_part.ensures.others (length (parts_in (slot_at c.give.new.self.ledger c.args.slot))) (none_behind c.give.new.self.ledger c.args.slot)) c.finish_part.ensures.rest c.finish_part.ensures.calm in
+    (c.finish_part.ensures.others (length (parts_in (slot_at c.give.new.self.ledger c.args.slot))) (none_behind c.give.new.self.ledger c.args.slot)) c.finish_part.ensures.rest c.finish_part.ensures.calm (c.finish_part.ensures.settled (subst (λ k. AllSettled k) (sym c.give.ensures.ledger) (give_settled c.args.self.now.ledger c.args.slot (given_open (slot_at c.args.self.now.ledger c.args.slot) (parts_of c.args.routes.parts.list)) c.requires.within (λ b. fresh_at _ _ _ (parts_of c.args.routes.parts.list) b c.requires.fits) c.requires.resting.settled))) in
     λ κs within. a.rest
+
+pub deliver-requires-clause-settled : goal.deliver-requires-clause-settled
+deliver-requires-clause-settled g c = λ κs within. c.finish_part.ensures.settled (subst (λ k. AllSettled k) (sym c.give.ensures.ledger) (give_settled c.args.self.now.ledger c.args.slot (given_open (slot_at c.args.self.now.ledger c.args.slot) (parts_of c.args.routes.parts.list)) c.requires.within (λ b. fresh_at _ _ _ (parts_of c.args.routes.parts.list) b c.requires.fits) c.requires.resting.settled))
 
 pub deliver-requires-clause-calm : goal.deliver-requires-clause-calm
 deliver-requires-clause-calm g c =
     let m = c.give.new.self.ledger in
     let k = c.finish_part.new.self.ledger in
     let a = after_give c.args.self.now.ledger c.give.new.self.ledger c.finish_part.new.self.ledger c.args.slot (length (parts_in (slot_at c.give.new.self.ledger c.args.slot))) _ c.requires.resting c.give.ensures.ledger c.give.ensures.calm
-    (c.finish_part.ensures.others (length (parts_in (slot_at c.give.new.self.ledger c.args.slot))) (none_behind c.give.new.self.ledger c.args.slot)) c.finish_part.ensures.rest c.finish_part.ensures.calm in
+    (c.finish_part.ensures.others (length (parts_in (slot_at c.give.new.self.ledger c.args.slot))) (none_behind c.give.new.self.ledger c.args.slot)) c.finish_part.ensures.rest c.finish_part.ensures.calm (c.finish_part.ensures.settled (subst (λ k. AllSettled k) (sym c.give.ensures.ledger) (give_settled c.args.self.now.ledger c.args.slot (given_open (slot_at c.args.self.now.ledger c.args.slot) (parts_of c.args.routes.parts.list)) c.requires.within (λ b. fresh_at _ _ _ (parts_of c.args.routes.parts.list) b c.requires.fits) c.requires.resting.settled))) in
     λ κs within. a.calm
 
 pub deliver-requires-clause-fresh : goal.deliver-requires-clause-fresh
@@ -49,7 +53,7 @@ returns-else-is_given-clause-resting g c =
     let m = c.give.new.self.ledger in
     let k = c.finish_part.new.self.ledger in
     let a = after_give c.args.self.now.ledger c.give.new.self.ledger c.finish_part.new.self.ledger c.args.slot (length (parts_in (slot_at c.give.new.self.ledger c.args.slot))) _ c.requires.resting c.give.ensures.ledger c.give.ensures.calm
-    (c.finish_part.ensures.others (length (parts_in (slot_at c.give.new.self.ledger c.args.slot))) (none_behind c.give.new.self.ledger c.args.slot)) c.finish_part.ensures.rest c.finish_part.ensures.calm in
+    (c.finish_part.ensures.others (length (parts_in (slot_at c.give.new.self.ledger c.args.slot))) (none_behind c.give.new.self.ledger c.args.slot)) c.finish_part.ensures.rest c.finish_part.ensures.calm (c.finish_part.ensures.settled (subst (λ k. AllSettled k) (sym c.give.ensures.ledger) (give_settled c.args.self.now.ledger c.args.slot (given_open (slot_at c.args.self.now.ledger c.args.slot) (parts_of c.args.routes.parts.list)) c.requires.within (λ b. fresh_at _ _ _ (parts_of c.args.routes.parts.list) b c.requires.fits) c.requires.resting.settled))) in
     closed_rests c.args.slot c.finish_part.new.self.ledger a (sym c.is_given.ensures ∙ c.if-is_given.false)
 
 pub is_given-requires-after_bounds : goal.is_given-requires-after_bounds

@@ -1,28 +1,12 @@
-use Rattle.std.proofs.Common.{◌≡◌, ◌≢◌, ℕ, ◌+◌, ◌<◌, ◌≤◌, arith, refl, sym, ap, ◌∙◌, subst, List, length, set, get_or, Option, Some, None, true, false, IsTrue, Bool}
-use Rattle.bt_demand.specs.Find.{begun, below}
-use Rattle.bt_demand.specs.Flushing.{Still}
-use Rattle.bt_demand.specs.Next.{todo}
-use Rattle.bt_demand.specs.Steps.{settle, wait, release, state_for}
-use Rattle.bt_demand.specs.declared.todo.Todo.TheVariants.{Put, Wait, Settled}
-use Rattle.bt_ledger.specs.Calls.{waited, entry_of}
-use Rattle.bt_ledger.specs.Due.{LeastDue, unanswered}
-use Rattle.bt_ledger.specs.Ledger.{Ledger, slot_at, part_tree, parts_in, is_given, IsPart, IsGiven, Roomy, with_part, with_slot, open_in, answered_in, chain_at}
-use Rattle.bt_ledger.specs.declared.slot.Slot.{Slot}
-use Rattle.bt_ledger.specs.declared.slot.Slot.TheVariants.{Free, Out, Given}
-use Rattle.bt_demand.specs.Reached.{NextIn}
-use Rattle.bt_moves.specs.Moves.{left_to_do, Keeps, KeepsBut, StepAt, Answering, Popped}
-use Rattle.bt_moves.specs.Resting.{AtRest}
-use Rattle.bt_moves.proofs.Keeping.{but_same, but_step, but_keeps, but_closes, keeps_same, keeps_joins, keeps_but, closed_quiet, closed_rest, begun_room, part_stays, given_true, but_joins}
-use Rattle.bt_moves.proofs.Moves.{step_with, step_same, step_joins, part_with, put_falls, wait_falls, popped, answering_same, answering_joins, answering_with, answering_tree, but_answering, closes_but, closed_free, closed_left, below_falls}
-use Rattle.bt_leaves.proofs.Begun.{put_begins, wait_begins}
-use Rattle.bt_leaves.proofs.Kept.{begun_step}
-use Rattle.bt_leaves.proofs.NextLeaf.{below_bytes}
+use Rattle.std.proofs.Common.{◌<◌, arith, ap, length}
+use Rattle.bt_moves.specs.Moves.{left_to_do}
+use Rattle.bt_moves.proofs.Moves.{closed_left}
 use Rattle.bt_ledger.specs.Ledger.{held_in}
-use Rattle.bt_moves.specs.Moves.{AllLate, LateKeeps, LateKeepsBut, PopKeepsLate}
-use Rattle.bt_moves.proofs.Lateness.{late_same, late_joins, but_same_late, but_joins_late, keeps_but_late, above_keeps, late_put, late_wait, late_pop, late_answering, late_close}
+use Rattle.bt_moves.proofs.Lateness.{late_joins, late_answering, late_close}
 use Rattle.bt_moves.proofs.Outs.{outs_joins, outs_answering, outs_close}
 use Rattle.bt_moves.proofs.Beginning.{fresh_answering, fresh_close}
 use Rattle.bt_moves.proofs.Ripening.{calms_answering, calms_close}
+use Rattle.bt_moves.proofs.Settling.{answering_settled, close_settled}
 use Rattle.bt_floor.proofs.floor.Floor.finish_part.Goals as goal
 
 pub returns-then-unanswered-eq0-clause-no_more : goal.returns-then-unanswered-eq0-clause-no_more
@@ -76,3 +60,13 @@ returns-then-unanswered-eq0-clause-outs g c =
 
 pub returns-else-unanswered-eq0-clause-outs : goal.returns-else-unanswered-eq0-clause-outs
 returns-else-unanswered-eq0-clause-outs g c = outs_answering c.args.slot c.args.self.now.ledger c.answer_due.new.self.ledger c.requires.given.1 c.answer_due.ensures.answering
+
+pub returns-then-unanswered-eq0-clause-settled : goal.returns-then-unanswered-eq0-clause-settled
+returns-then-unanswered-eq0-clause-settled g c =
+    let m = c.answer_due.new.self.ledger in
+    let s = c.answer_due.ensures.answering.slots in
+    let within : c.args.slot < length m.slots = (let r = c.requires.given.0 in omega arith) in
+    λ h. rw c.close.ensures.ledger (close_settled m c.args.slot within (answering_settled c.args.slot c.args.self.now.ledger m c.answer_due.ensures.answering h))
+
+pub returns-else-unanswered-eq0-clause-settled : goal.returns-else-unanswered-eq0-clause-settled
+returns-else-unanswered-eq0-clause-settled g c = answering_settled c.args.slot c.args.self.now.ledger c.answer_due.new.self.ledger c.answer_due.ensures.answering

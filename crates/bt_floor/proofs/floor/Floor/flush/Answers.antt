@@ -1,8 +1,6 @@
-use Rattle.std.proofs.Common.{◌≡◌, ℕ, ◌+◌, ◌<◌, ◌≤◌, arith, refl, sym, ap, ◌∙◌, subst, length, List, [], true}
+use Rattle.std.proofs.Common.{arith, refl, ap, ◌∙◌, length, List}
 use Rattle.bt_demand.specs.declared.routes.HoldPolicy.{HoldPolicy}
-use Rattle.bt_ledger.specs.Ledger.{Ledger, chain_at}
-use Rattle.bt_moves.specs.Moves.{Keeps, BeginsNone, RipensNone}
-use Rattle.bt_moves.specs.Resting.{BegunStill, Emptied}
+use Rattle.bt_moves.specs.Resting.{BegunStill}
 use Rattle.bt_moves.proofs.Keeping.{keeps_joins, keeps_same}
 use Rattle.bt_moves.proofs.Outs.{outs_same, outs_joins}
 use Rattle.bt_moves.proofs.Ordering.{still_after, late_all}
@@ -16,6 +14,7 @@ loop-node-init g c = record {
   outs = outs_same c.args.self.now.ledger;
   calm = λ n h. h;
   outside = refl;
+  settled = c.requires.settled;
   empties = λ j w. absurd (omega arith);
 }
 
@@ -33,6 +32,7 @@ loop-node-preserved g c =
       outs = outs_joins a l m i.outs c.flush_one.ensures.outs;
       calm = λ n h. c.flush_one.ensures.calm n (i.calm n h);
       outside = c.flush_one.ensures.outside ∙ i.outside;
+      settled = c.flush_one.ensures.settled;
       empties = one_more_empty l m c.loop-node.node i.empties late.1 c.flush_one.ensures.empties;
     }
 

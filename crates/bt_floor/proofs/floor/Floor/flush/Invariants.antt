@@ -1,6 +1,7 @@
-use Rattle.std.proofs.Common.{◌≡◌, ℕ, ◌<◌, ◌≤◌, [], length}
+use Rattle.std.proofs.Common.{◌≡◌, ℕ, ◌<◌, []}
 use Rattle.bt_ledger.specs.Ledger.{chain_at}
 use Rattle.bt_moves.specs.Moves.{Keeps, BeginsNone, RipensNone, OutStays}
+use Rattle.bt_moves.specs.Resting.{AllSettled}
 use Rattle.bt_floor.proofs.floor.Floor.flush.Given as goal
 
 abbrev pub invariant-loop-node : goal.invariant-loop-node
@@ -10,5 +11,6 @@ invariant-loop-node g l = record {
   outs : OutStays l.initial.self.ledger l.self.ledger;
   calm : RipensNone l.initial.self.ledger l.self.ledger;
   outside : l.self.outside ≡ l.initial.self.outside;
+  settled : AllSettled l.self.ledger;
   empties : (j : ℕ) → j < l.node → chain_at l.self.ledger j ≡ [];
 }

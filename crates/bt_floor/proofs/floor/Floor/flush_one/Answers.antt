@@ -1,4 +1,4 @@
-use Rattle.std.proofs.Common.{◌≡◌, ℕ, ◌+◌, ◌<◌, ◌≤◌, arith}
+use Rattle.std.proofs.Common.{arith}
 use Rattle.bt_moves.proofs.Outs.{outs_same}
 use Rattle.bt_floor.proofs.floor.Floor.flush_one.Goals as goal
 

@@ -1,7 +1,7 @@
-use Rattle.std.proofs.Common.{◌≡◌, ℕ, ◌<◌, refl, sym, ap, ◌∙◌, subst, length}
+use Rattle.std.proofs.Common.{◌<◌, sym, ap, subst, length}
 use Rattle.bt_demand.specs.Parts.{PartsFit, parts_of}
 use Rattle.bt_ledger.specs.Calls.{IsOut, Fits}
-use Rattle.bt_ledger.specs.Ledger.{Ledger, slot_at, items_in, number_in}
+use Rattle.bt_ledger.specs.Ledger.{slot_at, items_in, number_in}
 use Rattle.bt_sound.specs.View.{FloorView}
 use Rattle.bt_moves.specs.Moves.{RipensNone}
 use Rattle.bt_sound.specs.Transactions.{Derived}

@@ -1,9 +1,8 @@
-use Rattle.std.proofs.Common.{◌≡◌, ℕ, ◌<◌, ◌≤◌, refl, sym, ap, ◌∙◌, subst, length, true}
+use Rattle.std.proofs.Common.{ℕ, ◌≤◌, ap, subst}
 use Rattle.bt_demand.specs.Flushing.{InOrder}
 use Rattle.bt_ledger.specs.Book.{Booked}
 use Rattle.bt_ledger.specs.Ledger.{Ledger, slot_at, part_tree, parts_in}
 use Rattle.bt_leaves.proofs.Kept.{order_kept}
-use Rattle.bt_demand.specs.Recorded.{untried}
 use Rattle.bt_ledger.specs.Open.{tree_of}
 use Rattle.bt_sound.specs.View.{FloorView}
 use Rattle.bt_moves.proofs.Ordering.{order_at}

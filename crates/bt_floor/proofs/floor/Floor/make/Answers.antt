@@ -1,4 +1,4 @@
-use Rattle.std.proofs.Common.{◌≡◌, ℕ, ◌<◌, ◌≤◌, ◌^◌, List, [], arith, refl, sym, ap, ◌∙◌, subst, length}
+use Rattle.std.proofs.Common.{ℕ, List, [], arith, refl, sym, ap, ◌∙◌, subst, length}
 use Rattle.std.specs.Prelude.{replicate}
 use Rattle.std.proofs.lemmas.List.{length-replicate}
 use Rattle.bt_demand.specs.declared.routes.HoldPolicy.{HoldPolicy}

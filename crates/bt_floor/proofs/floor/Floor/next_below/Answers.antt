@@ -1,5 +1,4 @@
-use Rattle.std.proofs.Common.{◌≡◌, sym, ap, subst, IsSome}
-use Rattle.bt_demand.specs.Find.{below}
+use Rattle.std.proofs.Common.{sym, ap, subst}
 use Rattle.bt_demand.specs.Reached.{Reach}
 use Rattle.bt_ledger.specs.Ledger.{part_tree}
 use Rattle.bt_leaves.proofs.Reaching.{reached_there}

@@ -1,9 +1,6 @@
-use Rattle.std.proofs.Common.{◌≡◌, ℕ, ◌+◌, ◌<◌, ◌≤◌, arith, refl, sym, ap, ◌∙◌, subst, length, Option, Some, None, MatchOption, true, false, Bool, [], ◌∷◌}
-use Rattle.bt_demand.specs.Find.{begun}
-use Rattle.bt_ledger.specs.Book.{IsFront}
-use Rattle.bt_ledger.specs.Calls.{Released}
-use Rattle.bt_ledger.specs.Ledger.{Ledger, slot_at, part_tree, chain_at, IsPart}
-use Rattle.bt_moves.specs.Moves.{left_to_do, Popped, PopKeepsLate}
+use Rattle.std.proofs.Common.{◌<◌, sym, ap, subst, length}
+use Rattle.bt_ledger.specs.Ledger.{Ledger}
+use Rattle.bt_moves.specs.Moves.{Popped, PopKeepsLate}
 use Rattle.bt_sound.specs.View.{FloorView}
 use Rattle.bt_moves.specs.Moves.{RipensNone, BeginsNone}
 use Rattle.bt_moves.proofs.Beginning.{fresh_pop}
@@ -12,6 +9,8 @@ use Rattle.bt_moves.proofs.Lateness.{late_pop}
 use Rattle.bt_moves.proofs.Moves.{popped}
 use Rattle.bt_sound.proofs.Popping.{sound_pop}
 use Rattle.bt_moves.proofs.Popping.{pop_reaches}
+use Rattle.bt_moves.specs.Resting.{AllSettled}
+use Rattle.bt_moves.proofs.Settling.{pop_settles}
 use Rattle.bt_floor.proofs.floor.Floor.pop.Goals as goal
 
 pub invariant_of-self : goal.invariant_of-self
@@ -41,3 +40,8 @@ pub returns-clause-fresh : goal.returns-clause-fresh
 returns-clause-fresh g c =
     let l = ap (λ (v : FloorView _ _ _ _ _). v.ledger) c.self.view_is in
     subst (λ k. BeginsNone k c.release.new.self) l (fresh_pop c.self.inside.ledger c.release.new.self c.args.node c.release.result c.release.ensures.released c.release.ensures.front)
+
+pub returns-clause-settled : goal.returns-clause-settled
+returns-clause-settled g c =
+    let l = ap (λ (v : FloorView _ _ _ _ _). v.ledger) c.self.view_is in
+    λ h. pop_settles c.self.inside.ledger c.release.new.self c.args.node c.release.result (subst (λ k. AllSettled k) (sym l) h) c.release.ensures.released c.release.ensures.front

@@ -1,4 +1,4 @@
-use Rattle.std.proofs.Common.{◌≡◌, ℕ, ◌+◌, ◌<◌, ◌≤◌, arith, refl, sym, ap, ◌∙◌, subst, length}
+use Rattle.std.proofs.Common.{◌≡◌, ℕ, ◌+◌, ◌<◌, ◌≤◌, arith, sym, ap, ◌∙◌, subst, length}
 use Rattle.bt_ledger.specs.Calls.{IsOut}
 use Rattle.bt_ledger.specs.Ledger.{Ledger, slot_at, number_in, items_in}
 use Rattle.bt_sound.specs.Answers.{RefusedAll}

@@ -1,5 +1,6 @@
-use Rattle.std.proofs.Common.{◌≡◌, ℕ, ◌<◌, length}
+use Rattle.std.proofs.Common.{◌≡◌}
 use Rattle.bt_moves.specs.Moves.{Keeps, RipensNone, OutStays}
+use Rattle.bt_moves.specs.Resting.{AllSettled}
 use Rattle.bt_floor.proofs.floor.Floor.release_past.Given as goal
 
 abbrev pub invariant-loop-node : goal.invariant-loop-node
@@ -8,4 +9,5 @@ invariant-loop-node g l = record {
   calm : RipensNone l.initial.self.ledger l.self.ledger;
   outs : OutStays l.initial.self.ledger l.self.ledger;
   outside : l.self.outside ≡ l.initial.self.outside;
+  settled : AllSettled l.self.ledger;
 }

@@ -1,6 +1,5 @@
-use Rattle.std.proofs.Common.{◌≡◌, ℕ, ◌+◌, ◌<◌, ◌≤◌, arith, refl, sym, ap, ◌∙◌, subst, length, true, false}
-use Rattle.bt_ledger.specs.Ledger.{Ledger, slot_at, is_given, parts_in, IsPart}
-use Rattle.bt_moves.specs.Resting.{Delivering}
+use Rattle.std.proofs.Common.{◌<◌, arith, refl, ◌∙◌, length}
+use Rattle.bt_ledger.specs.Ledger.{slot_at, parts_in}
 use Rattle.bt_moves.proofs.Keeping.{part_stays, stays_joins, stays_same}
 use Rattle.bt_moves.proofs.Closing.{fewer_parts}
 use Rattle.bt_moves.proofs.Outs.{outs_same, outs_joins}

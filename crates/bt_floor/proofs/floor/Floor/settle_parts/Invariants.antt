@@ -1,4 +1,4 @@
-use Rattle.std.proofs.Common.{◌≡◌, ℕ, ◌<◌, ◌≤◌, [], length}
+use Rattle.std.proofs.Common.{◌≡◌, length}
 use Rattle.bt_moves.specs.Resting.{Delivering}
 use Rattle.bt_moves.specs.Moves.{SlotStays}
 use Rattle.bt_moves.specs.Moves.{OutStays}

@@ -1,9 +1,7 @@
-use Rattle.std.proofs.Common.{◌≡◌, ℕ, ◌+◌, refl, sym, ap, ◌∙◌, subst, length, Some, None}
-use Rattle.bt_ports.specs.Intake.{stop_of, NextFaults, NextLowers, NextGives, NextStops}
+use Rattle.std.proofs.Common.{◌≡◌, ◌+◌, refl, ap, ◌∙◌, subst, None}
+use Rattle.bt_ports.specs.Intake.{stop_of, NextLowers, NextGives}
 use Rattle.bt_ports.specs.declared.parts.Txn.{Txn}
-use Rattle.bt_sound.specs.Course.{ending_of}
 use Rattle.bt_sound.specs.View.{FloorView}
-use Rattle.bt_sound.proofs.Course.{TakesNext, Stops}
 use Rattle.bt_sound.proofs.Taking.{sound_take, sound_stop}
 use Rattle.bt_floor.proofs.floor.Floor.take.Goals as goal
 

@@ -1,11 +1,9 @@
-use Rattle.std.proofs.Common.{◌≡◌, ℕ, ◌+◌, ◌<◌, ◌≤◌, arith, refl, sym, ap, ◌∙◌, subst, length, Some, true, false, Bool}
+use Rattle.std.proofs.Common.{◌≡◌, arith, sym, ap, subst, Some, true}
 use Rattle.bt_demand.specs.Find.{begun}
-use Rattle.bt_demand.specs.Holding.{is_open}
 use Rattle.bt_demand.specs.Next.{todo}
 use Rattle.bt_demand.specs.Steps.{wait}
 use Rattle.bt_demand.specs.declared.todo.Todo.TheVariants.{Wait}
-use Rattle.bt_ledger.specs.Calls.{waited}
-use Rattle.bt_ledger.specs.Ledger.{Ledger, slot_at, part_tree, parts_in, IsPart}
+use Rattle.bt_ledger.specs.Ledger.{slot_at, part_tree, parts_in, IsPart}
 use Rattle.bt_steps.proofs.Outcomes.{open_wait}
 use Rattle.bt_ledger.proofs.Keeping.{next_known}
 use Rattle.bt_moves.specs.Moves.{left_to_do, StepAt, LateKeeps}
@@ -19,6 +17,8 @@ use Rattle.bt_sound.proofs.Steps.{sound_still, well_formed_at}
 use Rattle.bt_demand.proofs.Untouched.{wait-untouched}
 use Rattle.bt_moves.proofs.Keeping.{given_true}
 use Rattle.bt_leaves.proofs.Kept.{untried_wait, by_wait, rises_kept}
+use Rattle.bt_moves.specs.Resting.{AllSettled}
+use Rattle.bt_moves.proofs.Settling.{settled_hold}
 use Rattle.bt_floor.proofs.floor.Floor.wait.Goals as goal
 
 pub invariant_of-self : goal.invariant_of-self
@@ -66,3 +66,9 @@ returns-clause-calm g c =
     let l = ap (λ (v : FloorView _ _ _ _ _). v.ledger) c.self.view_is in
     let part : IsPart c.self.inside.ledger c.args.slot c.args.part = subst (λ k. IsPart k c.args.slot c.args.part) (sym l) c.requires.part in
     subst (λ k. RipensBut c.args.node k c.hold.new.self) l (rw c.hold.ensures (calms_wait c.self.inside.ledger c.args.slot c.args.part c.args.node part))
+
+pub returns-clause-settled : goal.returns-clause-settled
+returns-clause-settled g c =
+    let l = ap (λ (v : FloorView _ _ _ _ _). v.ledger) c.self.view_is in
+    let part : IsPart c.self.inside.ledger c.args.slot c.args.part = subst (λ k. IsPart k c.args.slot c.args.part) (sym l) c.requires.part in
+    λ h. rw c.hold.ensures (settled_hold c.self.inside.ledger c.args.slot c.args.part c.args.node part (subst (λ k. AllSettled k) (sym l) h))

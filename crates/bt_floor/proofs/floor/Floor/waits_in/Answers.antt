@@ -1,7 +1,7 @@
-use Rattle.std.proofs.Common.{◌≡◌, ℕ, List, [], ap, sym, ◌∙◌, length, get_or, ltb, arith, ◌<◌}
+use Rattle.std.proofs.Common.{List, [], ap, sym, ◌∙◌, length, get_or, ltb}
 use Rattle.bt_chains.specs.declared.Entry.{Entry}
 use Rattle.bt_ledger.specs.Ledger.{Ledger, chain_at}
-use Rattle.bt_ledger.proofs.Shown.{chains_length, chain_length}
+use Rattle.bt_ledger.proofs.Shown.{chain_length}
 use Rattle.bt_sound.specs.View.{FloorView}
 use Rattle.bt_floor.proofs.floor.Floor.waits_in.Goals as goal
 
