@@ -22,7 +22,10 @@ pub struct OutputCase<O> {
 #[derive(Drop)]
 pub enum Output {
     /// `stdout` or `file`: a record for the sink of that number.
-    Leaf { leaf: u32, sink: u32 },
+    Leaf {
+        leaf: u32,
+        sink: u32,
+    },
     /// `drop`
     Drop,
     /// `reject`, with the pieces of its text.
@@ -52,7 +55,10 @@ pub enum Output {
         child: Boxed<Output>,
     },
     /// `drop_on`, with its `error`.
-    DropOn { error: bool, child: Boxed<Output> },
+    DropOn {
+        error: bool,
+        child: Boxed<Output>,
+    },
 }
 
 /// Outputs in their order.
