@@ -1,5 +1,5 @@
 -- Where nothing can begin, all that is asked has begun; so has it in a demand that is settled.
-use Rattle.std.proofs.Common.{◌≡◌, ℕ, Bool, true, false, refl, sym, ap, ◌∙◌, subst, Option, Some, None}
+use Rattle.std.proofs.Common.{◌≡◌, ℕ, true, false, refl, sym, ap, ◌∙◌, Option, Some, None}
 use Rattle.bt_demand.specs.Find.{tried, reached}
 use Rattle.bt_demand.specs.Flushing.{Still}
 use Rattle.bt_demand.specs.Holding.{is_open}
@@ -10,7 +10,6 @@ use Rattle.bt_demand.specs.declared.demand.Stage.{Stage}
 use Rattle.bt_demand.specs.declared.demand.Stage.TheVariants.{Untried as Idle, Waiting, Released}
 use Rattle.bt_demand.specs.declared.demand.State.{State}
 use Rattle.bt_demand.specs.declared.demand.State.TheVariants.{Untried as Fresh, Good, Bad}
-use Rattle.bt_demand.specs.declared.outcome.Outcome.TheVariants.{Lost}
 use Rattle.bt_demand.specs.declared.todo.Todo.{Todo}
 use Rattle.bt_demand.specs.declared.todo.Todo.TheVariants.{Put, Wait, Settled}
 use Rattle.bt_demand.proofs.Flushing.{both_still, fallback_still}

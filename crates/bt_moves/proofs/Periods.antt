@@ -1,10 +1,10 @@
 -- Which chains waited for their periods, before and after those that did are released.
-use Rattle.std.proofs.Common.{◌≡◌, ◌≢◌, ℕ, zero, suc, ◌+◌, ◌-◌, ◌<◌, ◌≤◌, Bool, true, false, cond, ltb, leb, ◌&&◌, List, [], ◌∷◌, length, get_or, inl, inr, arith, refl, sym, ap, ◌∙◌, subst, Option, Some, None}
+use Rattle.std.proofs.Common.{◌≡◌, ◌≢◌, ℕ, zero, suc, ◌+◌, ◌<◌, ◌≤◌, Bool, true, false, cond, List, [], ◌∷◌, length, get_or, inl, inr, arith, refl, ap, ◌∙◌, Option, Some, None}
 use Rattle.std.specs.Prelude.{is_some}
 use Rattle.std.proofs.lemmas.Bool.Decides.{eqb_tells, leb_tells}
 use Rattle.bt_chains.specs.declared.Entry.{Entry}
 use Rattle.bt_demand.specs.declared.routes.HoldPolicy.{HoldPolicy}
-use Rattle.bt_ledger.specs.Calls.{reason, reason_at, is_met, is_past, policy_at, no_policy, front_moment, last_ends}
+use Rattle.bt_ledger.specs.Calls.{reason, is_met, is_past, policy_at, no_policy, front_moment, last_ends}
 use Rattle.bt_ledger.specs.Ledger.{Ledger, chain_at, sizes}
 use Rattle.bt_ledger.specs.declared.reason.Reason.{Reason}
 use Rattle.bt_ledger.specs.declared.reason.Reason.TheVariants.{Count, Bytes, Check, Period}

@@ -35,8 +35,8 @@ loop-node-preserved g c =
     let still : BegunStill l = still_after c.args.self.now.ledger c.loop-node.self.ledger (resting_still c.args.self.now.ledger c.requires.resting) i.others i.fresh in
     let late = c.release_if_past.ensures.late (late_all c.loop-node.self.ledger c.loop-node.node still c.in_order.ensures.order) in
     let unless : ((j : ℕ) → j < c.loop-node.node + 1 → waited_out c.args.self.now.ledger j c.args.moment ≡ false) → c.release_if_past.new.self ≡ c.args.self.now =
-        λ f. (let e = i.unless (λ j w. f j (omega arith)) in
-        c.release_if_past.ensures.unless (ap (λ (v : FloorView _ _ _ _ _). waited_out v.ledger c.loop-node.node c.args.moment) e ∙ f c.loop-node.node (omega arith)) ∙ e) in
+    λ f. (let e = i.unless (λ j w. f j (omega arith)) in
+    c.release_if_past.ensures.unless (ap (λ (v : FloorView _ _ _ _ _). waited_out v.ledger c.loop-node.node c.args.moment) e ∙ f c.loop-node.node (omega arith)) ∙ e) in
     record {
       others = keeps_joins a l m i.others c.release_if_past.ensures.others;
       fresh = λ x y h. c.release_if_past.ensures.fresh x y (i.fresh x y h);
