@@ -111,9 +111,9 @@ many : (w : ℕ) → length {A = Slot} (replicate w Free) ≡ w
 many zero = refl
 many (suc w) = let a = many w in omega arith
 
--- after a transaction was taken the children of released holds are still settled
-pub taken_settled : {I K A C D : Type 0} (gi : Intake.Ghosts I) (gc : Clock.Ghosts C) (f g : FloorView I K A C D) (s : ℕ) (t : Txn) → Resting f.ledger → Takes gi gc f g s t → AllSettled g.ledger
-taken_settled gi gc f g s t r take = (subst (λ q. Resting q) (sym take.ledger) (resting_slot f.ledger s (Out t.number t.moment (length t.items.list)) take.within (ap is_given take.free) refl r)).settled
+-- after a transaction was taken the floor is still at rest
+pub taken_resting : {I K A C D : Type 0} (gi : Intake.Ghosts I) (gc : Clock.Ghosts C) (f g : FloorView I K A C D) (s : ℕ) (t : Txn) → Resting f.ledger → Takes gi gc f g s t → Resting g.ledger
+taken_resting gi gc f g s t r take = subst (λ q. Resting q) (sym take.ledger) (resting_slot f.ledger s (Out t.number t.moment (length t.items.list)) take.within (ap is_given take.free) refl r)
 
 -- a desk at its beginning
 pub standing_made : {I K A C D : Type 0} (f : FloorView I K A C D) (plan : D) (policies : List HoldPolicy) (p : Parts I K A C) (w e n : ℕ) → Begins f plan policies p w e → 1 ≤ w

@@ -1,11 +1,14 @@
 -- The run stands: what holds between two calls of a desk, beside the closed transactions as they stood at their close.
 use Rattle.std.specs.Prelude.{◌≡◌, ℕ, ◌≤◌, true, List}
+use Rattle.std.specs.List.{AllByRecursion}
 use Rattle.bt_demand.specs.Holding.{waiting}
 use Rattle.bt_demand.specs.declared.derive.Derive as Derive
 use Rattle.bt_duties.specs.DeskView.{DeskView}
 use Rattle.bt_duties.specs.Standing.{Standing}
 use Rattle.bt_ledger.specs.Book.{Booked}
-use Rattle.bt_ledger.specs.Ledger.{slot_at, is_given, held, opened, over_parts, parts_in}
+use Rattle.bt_leaves.specs.Pursued.{Pursued}
+use Rattle.bt_ledger.specs.Ledger.{slot_at, is_given, held, opened, over_parts, parts_in, part_tree}
+use Rattle.bt_ledger.specs.Open.{tree_of}
 use Rattle.bt_ports.specs.declared.outside.Answerer as Answerer
 use Rattle.bt_ports.specs.declared.outside.Clock as Clock
 use Rattle.bt_ports.specs.declared.outside.Intake as Intake
@@ -26,6 +29,10 @@ pub record Stands {I K A C D : Type 0} (gi : Intake.Ghosts I) (gk : Sink.Ghosts 
   pub booked : Booked d.floor.ledger
   -- each open transaction has a hold that waits
   pub waits : (s : ℕ) → is_given (slot_at d.floor.ledger s) ≡ true → 1 ≤ over_parts waiting (parts_in (slot_at d.floor.ledger s))
+  -- each asked hold waits or was released, and each asked leaf that isn't below a hold that waits was tried, so that it has
+  -- a record; so it was in each transaction that is closed
+  pub asked : (s p : ℕ) → Pursued (part_tree d.floor.ledger s p)
+  pub past_asked : AllByRecursion (λ q. (p : ℕ) → Pursued (tree_of q.state.parts p)) closed
   -- what is held: no more transactions are out or open than the window says, and no more entries wait than the pool has
   pub few : opened d.floor.ledger ≤ d.window
   pub entries : held d.floor.ledger ≤ d.floor.ledger.entries

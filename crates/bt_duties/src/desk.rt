@@ -7,6 +7,7 @@ ghost use Rattle.bt_duties.specs.Duties.{AllIdle, duty_at, idle, items_out, numb
 ghost use Rattle.bt_floor.specs.Calls.{Begins, NothingAnswered, NothingPut};
 ghost use Rattle.bt_ledger.specs.Ledger.{opened};
 ghost use Rattle.bt_duties.specs.Stands.{IsStanding};
+ghost use Rattle.bt_moves.specs.Resting.{Emptied};
 ghost use Rattle.bt_sound.specs.Counting.{capped};
 ghost use Rattle.bt_sound.specs.Transactions.{Derived};
 
@@ -101,7 +102,7 @@ impl<I: Intake, K: Sink, A: Answerer, C: Clock, D: Derive> Desk<I, K, A, C, D> {
     /// run ends. Transactions are numbered from 1.
     ///
     /// Where the window is full it answers `Full` while some duty is out, and nothing changes; else it flushes first.
-    /// Chains whose oldest entry waited for its hold's period are released at the transaction's moment. Only the intake
+    /// Each chain whose oldest entry waited for its hold's period at the transaction's moment is released. Only the intake
     /// may take memory here, and `NoMemory` comes exactly where it found none.
     pub fn admit(&mut self, duty: u32) -> Admit
         requires duty { duty < length self.old.duties }
@@ -132,6 +133,9 @@ impl<I: Intake, K: Sink, A: Answerer, C: Clock, D: Derive> Desk<I, K, A, C, D> {
     fn make_place(&mut self) -> bool
         ensures full { result ≡ false → WasFull self.old self.new }
         ensures place { result ≡ true → opened self.new.floor.ledger < length self.new.floor.ledger.slots }
+        ensures room { result ≡ true → opened self.new.floor.ledger < self.new.window }
+        ensures same { opened self.old.floor.ledger < self.old.window → self.new ≡ self.old }
+        ensures flushed { self.old.window ≤ opened self.old.floor.ledger → result ≡ true → Emptied self.new.floor.ledger }
         ensures duties { self.new.duties ≡ self.old.duties }
         ensures window { self.new.window ≡ self.old.window }
         ensures outside { self.new.floor.outside ≡ self.old.floor.outside }

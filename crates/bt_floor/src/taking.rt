@@ -36,7 +36,7 @@ impl<I: Intake, K: Sink, A: Answerer, C: Clock, D: Derive> Floor<I, K, A, C, D> 
         requires goes { self.old.outside.ending ≡ None }
         requires room { opened self.old.ledger < length self.old.ledger.slots }
         ensures ok { IfOk result (λ t. Takes ⟦<I as Intake>⟧ ⟦<C as Clock>⟧ self.old self.new t.slot t.txn) }
-        ensures err { IfErr result (λ e. Ends ⟦<I as Intake>⟧ self.old self.new e) }
+        ensures err { IfErr result (λ e. Ends ⟦<I as Intake>⟧ ⟦<C as Clock>⟧ self.old self.new e) }
     {
         match batch_of(self.intake.next()) {
             Ok(items) => {

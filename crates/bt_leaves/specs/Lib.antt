@@ -1,3 +1,4 @@
 pub mod EachLeaf
 pub mod LeafAt
+pub mod Pursued
 pub mod Released

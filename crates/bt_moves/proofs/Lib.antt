@@ -7,6 +7,7 @@ pub mod Lateness
 pub mod Moves
 pub mod Ordering
 pub mod Outs
+pub mod Periods
 pub mod Popping
 pub mod Ripening
 pub mod Settling

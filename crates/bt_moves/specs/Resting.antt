@@ -5,7 +5,7 @@ use Rattle.bt_demand.specs.Find.{begun}
 use Rattle.bt_demand.specs.Flushing.{Still}
 use Rattle.bt_demand.specs.Next.{todo}
 use Rattle.bt_leaves.specs.Released.{ReleasedSettled, ReleasedSettledBut}
-use Rattle.bt_ledger.specs.Calls.{reason}
+use Rattle.bt_ledger.specs.Calls.{reason, is_past, policy_at, front_moment}
 use Rattle.bt_ledger.specs.Due.{LeastDue, unanswered}
 use Rattle.bt_ledger.specs.Ledger.{Ledger, slot_at, part_tree, open_in, answered_in, is_given, chain_at}
 
@@ -21,6 +21,18 @@ AtRest l s = LeastDue (open_in (slot_at l s)) None × Unfinished (is_given (slot
 -- a chain isn't ripe by Count, Bytes or Check
 abbrev pub Unripe : Ledger → ℕ → Type 0
 Unripe l n = reason l n None ≡ None
+
+-- the period of hold n is on, and its chain's oldest entry waited for it at that moment
+abbrev pub waited_out : Ledger → (n moment : ℕ) → Bool
+waited_out l n moment = is_past (Some moment) (policy_at l n).period (front_moment (chain_at l n))
+
+-- no chain waited for its period at that moment
+abbrev pub NoneWaitedOut : Ledger → (moment : ℕ) → Type 0
+NoneWaitedOut l moment = (n : ℕ) → waited_out l n moment ≡ false
+
+-- where no chain up to n waited for its period at that moment, chain n stays as it was
+abbrev pub StaysUnlessPast : (moment : ℕ) → Ledger → Ledger → Type 0
+StaysUnlessPast moment l m = (n : ℕ) → ((j : ℕ) → j ≤ n → waited_out l j moment ≡ false) → chain_at m n ≡ chain_at l n
 
 -- no part that has begun can go on
 abbrev pub BegunStill : Ledger → Type 0

@@ -19,7 +19,7 @@ use Rattle.bt_ports.specs.declared.outside.Clock as Clock
 use Rattle.bt_ports.specs.declared.outside.Intake as Intake
 use Rattle.bt_ports.specs.declared.outside.Sink as Sink
 use Rattle.bt_ports.specs.declared.parts.AnswerCall.{AnswerCall}
-use Rattle.bt_sound.specs.Answers.{is_for, calls_for, Called, Says, PastSays}
+use Rattle.bt_sound.specs.Answers.{is_for, calls_for, AnsweredSettled, Called, Says, PastSays}
 use Rattle.bt_sound.specs.Counting.{answer_with, AnswersCounted, ReleasesSum}
 use Rattle.bt_sound.proofs.Counting.{counted_more, summed_answer, answer_memory}
 use Rattle.bt_sound.specs.Records.{Told}
@@ -30,6 +30,7 @@ use Rattle.bt_sound.specs.declared.counts.Counts.{Counts}
 use Rattle.bt_sound.proofs.Lists.{each_map, each_both, each_snoc}
 use Rattle.bt_sound.proofs.Owned.{owned_close, owned_same}
 use Rattle.bt_sound.proofs.Placing.{in_slots_set, apart_by, placed_range, gone_by}
+use Rattle.bt_sound.proofs.Settled.{all_done, done_answer}
 use Rattle.bt_sound.proofs.Slots.{close_cases, over_slot, over_trees}
 
 pub over_close : (P : Open → Type 0) (q : Slot → Bool) (b : Bool) (l : Ledger) (s : ℕ) → s < length l.slots → (q Free ≡ b → ⊥) → ((a : ℕ) → q (slot_at l a) ≡ b → P (open_in (slot_at l a))) → (a : ℕ) → q (slot_at (with_slot l s Free) a) ≡ b → P (open_in (slot_at (with_slot l s Free) a))
@@ -71,6 +72,9 @@ sound_close gi gk ga gc gd f closed s h w g done =
       expected = over_slot (λ y. Taken gi gc f.outside (number_in y) (moment_in y) (items_in y)) is_out f.ledger s Free w refl h.expected;
       untouched = over_trees (λ v. Untouched v) f.ledger s Free w (λ b. tt) h.untouched;
       past_answered = (done, h.past_answered);
+      done = over_close (λ x. AnsweredSettled x) is_given true f.ledger s w no h.done;
+      past_done = (all_done _ _ (open_in (slot_at f.ledger s)) (h.shaped s g) done (h.done s g), h.past_done);
+      past_untouched = ((λ b. h.untouched s b), h.past_untouched);
       shaped = over_close (λ x. Shaped gd f.outside x) is_given true f.ledger s w no h.shaped;
       planned = over_close (λ x. Planned gi gc gd f.outside x) is_given true f.ledger s w no h.planned;
       past_taken = (record { planned = λ _. h.planned s g; shaped = λ _. h.shaped s g; refused = λ e. (let z : false ≡ true = e in cc); without = λ e. (let z : false ≡ true = e in cc) }, h.past_taken);
@@ -187,6 +191,9 @@ sound_answer gi gk ga gc gd f closed s i c u n h w due en ei ev ey told calls cn
       expected = over_slot (λ y. Taken gi gc f.outside (number_in y) (moment_in y) (items_in y)) is_out f.ledger s (Given (record (open_in (slot_at f.ledger s)) { answered = set (answered_in (slot_at f.ledger s)) i true })) w.0 refl h.expected;
       untouched = over_trees (λ v. Untouched v) f.ledger s (Given (record (open_in (slot_at f.ledger s)) { answered = set (answered_in (slot_at f.ledger s)) i true })) w.0 (λ b. h.untouched s b) h.untouched;
       past_answered = h.past_answered;
+      done = over_answer (λ x. AnsweredSettled x) is_given true f.ledger s (set (answered_in (slot_at f.ledger s)) i true) w.0 g (λ x. done_answer (open_in (slot_at f.ledger s)) i due.0 due.2 x) (λ a _ e. h.done a e) (h.done s g);
+      past_done = h.past_done;
+      past_untouched = h.past_untouched;
       shaped = over_answer (λ x. Shaped gd f.outside x) is_given true f.ledger s (set (answered_in (slot_at f.ledger s)) i true) w.0 g
           (λ x. subst (λ m. PartsFit (gd.sinks f.outside.plan) (length (gd.policies f.outside.plan)) m (untried_parts (parts_in (slot_at f.ledger s)))) (sym len) x) (λ a _ e. h.shaped a e) (h.shaped s g);
       planned = over_answer (λ x. Planned gi gc gd f.outside x) is_given true f.ledger s (set (answered_in (slot_at f.ledger s)) i true) w.0 g

@@ -7,6 +7,7 @@ pub mod Placing
 pub mod Popping
 pub mod Puts
 pub mod Refusing
+pub mod Settled
 pub mod Slots
 pub mod Steps
 pub mod Taking

@@ -22,7 +22,7 @@ use Rattle.bt_ports.specs.declared.outside.Sink as Sink
 use Rattle.bt_ports.specs.declared.parts.AnswerCall.{AnswerCall}
 use Rattle.bt_ports.specs.declared.parts.Cause.TheVariants.{NoMemory}
 use Rattle.bt_ports.specs.declared.parts.Verdict.TheVariants.{Refused}
-use Rattle.bt_sound.specs.Answers.{is_for, calls_for, Called, Says, PastSays, IsRefusal, RefusalsFrom}
+use Rattle.bt_sound.specs.Answers.{is_for, calls_for, AnsweredSettled, Called, Says, PastSays, IsRefusal, RefusalsFrom}
 use Rattle.bt_sound.specs.Counting.{AnswersCounted, ReleasesSum}
 use Rattle.bt_sound.proofs.Course.{same_later, course_same, taken_later, planned_later}
 use Rattle.bt_sound.specs.Records.{Told}
@@ -127,6 +127,9 @@ sound_refuse gi gk ga gc gd f closed s u k ds h w out r =
             (λ p y. record { planned = λ e. plan _ (y.planned e); shaped = y.shaped; refused = λ e. later _ _ _ (y.refused e); without = y.without }) h.past_taken,
       );
       past_answered = (all_answered (items_in (slot_at f.ledger s)), h.past_answered);
+      done = over_out (λ x. AnsweredSettled x) is_given f.ledger s Free w refl h.done;
+      past_done = ((λ q v. absurd (omega arith)), h.past_done);
+      past_untouched = ((λ b. tt), h.past_untouched);
       untouched = over_trees (λ v. Untouched v) f.ledger s Free w (λ b. tt) h.untouched;
       told = λ d. over_out (λ x. Told gk f.sinks d x) is_given f.ledger s Free w refl (h.told d);
       past_told = λ d. ((λ p. tt), h.past_told d);

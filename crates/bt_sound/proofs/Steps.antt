@@ -33,7 +33,7 @@ use Rattle.bt_ports.specs.declared.outside.Clock as Clock
 use Rattle.bt_ports.specs.declared.outside.Intake as Intake
 use Rattle.bt_ports.specs.declared.outside.Sink as Sink
 use Rattle.bt_ports.specs.declared.parts.Record.{Record}
-use Rattle.bt_sound.specs.Answers.{Called, Says}
+use Rattle.bt_sound.specs.Answers.{AnsweredSettled, Called, Says}
 use Rattle.bt_sound.specs.Owned.{IsRecordOf, Owned, PutsAs}
 use Rattle.bt_sound.specs.Records.{is_of, LeafTold, Told, PutAt}
 use Rattle.bt_sound.specs.Sound.{in_past, SaysTrue, Unknown, Sound}
@@ -43,6 +43,7 @@ use Rattle.bt_sound.proofs.Lists.{each_map, each_both}
 use Rattle.bt_sound.proofs.Owned.{puts_next, puts_at, is_step, owned_map, owned_put, untried_at}
 use Rattle.bt_sound.proofs.Placing.{apart_by, gone_by}
 use Rattle.bt_sound.proofs.Puts.{told_apart, tree_map, tree_put, of_itself, of_other}
+use Rattle.bt_sound.proofs.Settled.{done_step}
 use Rattle.bt_sound.proofs.Slots.{stepped_open, step_cases, over_step, over_slot, untried_with, placed_step, planned_with, known_step}
 use Rattle.bt_sound.proofs.Verdicts.{says_step, tree_same, tree_other}
 
@@ -77,6 +78,9 @@ sound_step gi gk ga gc gd f closed s p t cs us h w u o ut n told past unwritten 
         | inr i ↦ subst (λ v. Untouched v) (sym i.1) (h.untouched a b)
       ];
       past_answered = h.past_answered;
+      done = over_step (λ x. AnsweredSettled x) is_given true f.ledger s p t w g (λ x. done_step (open_in (slot_at f.ledger s)) p t w.1 o x) h.done;
+      past_done = h.past_done;
+      past_untouched = h.past_untouched;
       shaped = over_step (λ x. Shaped gd f.outside x) is_given true f.ledger s p t w g (λ x. subst (λ ps. PartsFit (gd.sinks f.outside.plan) (length (gd.policies f.outside.plan)) (length (answered_in (slot_at f.ledger s))) ps) (sym e) x) h.shaped;
       planned = over_step (λ x. Planned gi gc gd f.outside x) is_given true f.ledger s p t w g (λ x. planned_with gi gc gd f.outside (open_in (slot_at f.ledger s)) (with_tree (parts_in (slot_at f.ledger s)) p t) e x) h.planned;
       past_taken = h.past_taken;

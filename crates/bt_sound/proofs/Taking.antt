@@ -27,7 +27,7 @@ use Rattle.bt_ports.specs.declared.outside.Intake as Intake
 use Rattle.bt_ports.specs.declared.outside.Sink as Sink
 use Rattle.bt_ports.specs.declared.parts.AnswerCall.{AnswerCall}
 use Rattle.bt_ports.specs.declared.parts.Txn.{Txn}
-use Rattle.bt_sound.specs.Answers.{is_for, calls_for, Called, Says}
+use Rattle.bt_sound.specs.Answers.{AnsweredSettled, is_for, calls_for, Called, Says}
 use Rattle.bt_sound.specs.Counting.{AnswersCounted, ReleasesSum}
 use Rattle.bt_sound.specs.Course.{Course}
 use Rattle.bt_sound.proofs.Course.{TakesNext, Stops, next_later, next_is, course_next, stop_later, course_stop, taken_later, planned_later}
@@ -41,6 +41,7 @@ use Rattle.bt_sound.proofs.Answered.{for_other, and_no}
 use Rattle.bt_sound.proofs.Lists.{each_map, each_both}
 use Rattle.bt_sound.proofs.Owned.{owned_out}
 use Rattle.bt_sound.proofs.Placing.{in_slots_set, apart_by, gone_by}
+use Rattle.bt_sound.proofs.Settled.{done_none}
 use Rattle.bt_sound.proofs.Slots.{close_cases, over_slot, over_trees, yes_no}
 
 fresh_parts : (k m i : ℕ) (ps : List Part) → PartsFit k m i ps → untried_parts ps ≡ ps
@@ -182,6 +183,9 @@ sound_take gi gk ga gc gd f closed s i c t h w free goes next =
       ];
       untouched = over_trees (λ v. Untouched v) f.ledger s (Out (f.outside.taken + 1) t.moment (length t.items.list)) w (λ b. tt) h.untouched;
       past_answered = h.past_answered;
+      done = over_out (λ y. AnsweredSettled y) is_given f.ledger s (Out (f.outside.taken + 1) t.moment (length t.items.list)) w refl h.done;
+      past_done = h.past_done;
+      past_untouched = h.past_untouched;
       shaped = over_out (λ y. Shaped gd f.outside y) is_given f.ledger s (Out (f.outside.taken + 1) t.moment (length t.items.list)) w refl h.shaped;
       planned = over_out (λ y. Planned gi gc gd (record f.outside { intake = i; clock = c; taken = f.outside.taken + 1 }) y) is_given f.ledger s (Out (f.outside.taken + 1) t.moment (length t.items.list)) w refl (λ a e. later (open_in (slot_at f.ledger a)) (h.planned a e));
       past_taken = each_map (λ p. WasTaken gi gc gd f.outside p) (λ p. WasTaken gi gc gd (record f.outside { intake = i; clock = c; taken = f.outside.taken + 1 }) p) closed
@@ -221,6 +225,9 @@ sound_stop gi gk ga gc gd f closed i r s h =
       past_taken = each_map (λ p. WasTaken gi gc gd f.outside p) (λ p. WasTaken gi gc gd (record f.outside { intake = i; ending = Some s.ending }) p) closed
           (λ p y. record { planned = λ e. planned_later gi gc gd f.outside i f.outside.clock f.outside.taken (Some s.ending) f.outside.refused_memory _ l (y.planned e); shaped = y.shaped; refused = λ e. taken_later gi gc f.outside i f.outside.clock f.outside.taken (Some s.ending) f.outside.refused_memory _ _ _ l (y.refused e); without = y.without }) h.past_taken;
       past_answered = h.past_answered;
+      done = h.done;
+      past_done = h.past_done;
+      past_untouched = h.past_untouched;
       untouched = h.untouched;
       told = h.told;
       past_told = h.past_told;
@@ -280,6 +287,9 @@ sound_give gi gk ga gc gd f closed s ps h w out fit derived =
       expected = over_slot (λ y. Taken gi gc f.outside (number_in y) (moment_in y) (items_in y)) is_out f.ledger s (Given (given_open (slot_at f.ledger s) ps)) w refl h.expected;
       untouched = over_trees (λ v. Untouched v) f.ledger s (Given (given_open (slot_at f.ledger s) ps)) w (λ b. unbegun-untouched (tree_of ps b) (fresh_at _ _ _ ps b fit)) h.untouched;
       past_answered = h.past_answered;
+      done = over_give (λ x. AnsweredSettled x) is_given true f.ledger s (given_open (slot_at f.ledger s) ps) w (λ a _ e. h.done a e) (done_none (given_open (slot_at f.ledger s) ps) (items_in (slot_at f.ledger s)) refl);
+      past_done = h.past_done;
+      past_untouched = h.past_untouched;
       shaped = over_give (λ x. Shaped gd f.outside x) is_given true f.ledger s (given_open (slot_at f.ledger s) ps) w (λ a _ e. h.shaped a e)
           (subst (λ us. PartsFit (gd.sinks f.outside.plan) (length (gd.policies f.outside.plan)) (length (replicate (items_in (slot_at f.ledger s)) false)) us) (sym (fresh_parts _ _ _ ps fit)) (subst (λ m. PartsFit (gd.sinks f.outside.plan) (length (gd.policies f.outside.plan)) m ps) (sym (length-replicate (items_in (slot_at f.ledger s)) false)) fit));
       planned = over_give (λ x. Planned gi gc gd f.outside x) is_given true f.ledger s (given_open (slot_at f.ledger s) ps) w (λ a _ e. h.planned a e) plan;
@@ -341,6 +351,9 @@ sound_make gi gk ga gc gd f w es ep ek er few wide en et course uncounted summed
       planned = λ s e. absurd (none_at s e);
       past_taken = tt;
       past_answered = tt;
+      done = λ s e. absurd (none_at s e);
+      past_done = tt;
+      past_untouched = tt;
       untouched = λ s p. subst (λ x. Untouched (tree_of (parts_in x) p)) (sym (free s)) tt;
       told = λ d s e. absurd (none_at s e);
       past_told = λ d. tt;

@@ -14,13 +14,13 @@ use Rattle.bt_ports.specs.declared.parts.AnswerCall.{AnswerCall}
 use Rattle.bt_ports.specs.declared.parts.Verdict.{Verdict}
 use Rattle.bt_sound.specs.Answers.{Says}
 
-open_under : (ps : List Part) (k i : ℕ) → k < length ps → counts_for i (part_at ps k) ≤ open_parts i ps
+pub open_under : (ps : List Part) (k i : ℕ) → k < length ps → counts_for i (part_at ps k) ≤ open_parts i ps
 open_under [] k i h = absurd (omega arith)
 open_under (q ∷ ps) zero i h = omega arith
 open_under (q ∷ ps) (suc k) i h = let j = open_under ps k i (omega arith) in omega arith
 
 -- an open part doesn't come from an item that has no open part
-not_from : (ps : List Part) (k i : ℕ) → k < length ps → is_open (outcome (tree_of ps k)) ≡ true → open_parts i ps ≡ 0 → times i (from_of ps k) ≡ 0
+pub not_from : (ps : List Part) (k i : ℕ) → k < length ps → is_open (outcome (tree_of ps k)) ≡ true → open_parts i ps ≡ 0 → times i (from_of ps k) ≡ 0
 not_from ps k i h o e =
     let a = open_under ps k i h in
     let f : counts_for i (part_at ps k) ≡ times i (from_of ps k) = ap {B = ℕ} (λ v. cond v (times i (from_of ps k)) 0) o in

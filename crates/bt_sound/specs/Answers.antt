@@ -1,6 +1,7 @@
 -- The calls at the answerer, by transaction and item.
 use Rattle.std.specs.Prelude.{◌≡◌, ℕ, ◌+◌, Bool, true, false, eqb, ◌&&◌, List, [], ◌∷◌, ◌++◌, length, get_or, IsTrue, Some}
 use Rattle.bt_demand.specs.Holding.{one_if}
+use Rattle.bt_ledger.specs.Due.{open_parts}
 use Rattle.bt_ledger.specs.Open.{Open}
 use Rattle.bt_ledger.specs.Verdicts.{verdict_of, why_of}
 use Rattle.bt_ports.specs.declared.outside.Answerer as Answerer
@@ -22,6 +23,10 @@ calls_for n i (c ∷ cs) = one_if (is_for n i c) + calls_for n i cs
 -- each item of a transaction has one call where it is answered, and else none
 abbrev pub Called : List AnswerCall → Open → Type 0
 Called cs o = (i : ℕ) → calls_for o.number i cs ≡ one_if (get_or o.answered i false)
+
+-- of each answered item all parts are met or lost
+abbrev pub AnsweredSettled : Open → Type 0
+AnsweredSettled o = (i : ℕ) → get_or o.answered i false ≡ true → open_parts i o.parts ≡ 0
 
 -- a call for an item carries the verdict of the parts from the item, and the text that says why
 pub record Says (o : Open) (c : AnswerCall) : Type 0 where

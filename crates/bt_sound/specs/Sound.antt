@@ -5,8 +5,9 @@ use Rattle.bt_demand.specs.Holding.{one_if}
 use Rattle.bt_demand.specs.Untouched.{Untouched}
 use Rattle.bt_demand.specs.declared.demand.State.TheVariants.{Untried}
 use Rattle.bt_demand.specs.declared.derive.Derive as Derive
-use Rattle.bt_ledger.specs.Due.{unanswered}
+use Rattle.bt_ledger.specs.Due.{unanswered, AllSettled}
 use Rattle.bt_ledger.specs.Ledger.{Ledger, slot_at, part_tree, number_in, moment_in, items_in, is_free, is_given, open_in}
+use Rattle.bt_ledger.specs.Open.{tree_of}
 use Rattle.bt_ledger.specs.declared.slot.Slot.{Slot}
 use Rattle.bt_moves.specs.Moves.{is_out}
 use Rattle.bt_ports.specs.declared.outside.Answerer as Answerer
@@ -14,7 +15,7 @@ use Rattle.bt_ports.specs.declared.outside.Clock as Clock
 use Rattle.bt_ports.specs.declared.outside.Intake as Intake
 use Rattle.bt_ports.specs.declared.outside.Sink as Sink
 use Rattle.bt_ports.specs.declared.parts.AnswerCall.{AnswerCall}
-use Rattle.bt_sound.specs.Answers.{Called, Says, PastSays}
+use Rattle.bt_sound.specs.Answers.{AnsweredSettled, Called, Says, PastSays}
 use Rattle.bt_sound.specs.Counting.{AnswersCounted, ReleasesSum}
 use Rattle.bt_sound.specs.Course.{Course}
 use Rattle.bt_sound.specs.Owned.{Owned}
@@ -60,8 +61,12 @@ pub record Sound {I K A C D : Type 0} (gi : Intake.Ghosts I) (gk : Sink.Ghosts K
   -- so was each that is closed, and all its items are answered
   pub past_taken : AllByRecursion (λ p. WasTaken gi gc gd f.outside p) closed
   pub past_answered : AllByRecursion (λ p. unanswered p.state.answered ≡ 0) closed
+  -- of an answered item all parts are met or lost, and so are all parts of a closed transaction
+  pub done : (s : ℕ) → is_given (slot_at f.ledger s) ≡ true → AnsweredSettled (open_in (slot_at f.ledger s))
+  pub past_done : AllByRecursion (λ p. AllSettled p.state.parts) closed
   -- what isn't asked is untouched
   pub untouched : (s p : ℕ) → Untouched (part_tree f.ledger s p)
+  pub past_untouched : AllByRecursion (λ q. (p : ℕ) → Untouched (tree_of q.state.parts p)) closed
   -- each leaf has the records of its state at its own sink, and no list has a record of another transaction
   pub told : (d : K) (s : ℕ) → is_given (slot_at f.ledger s) ≡ true → Told gk f.sinks d (open_in (slot_at f.ledger s))
   pub past_told : (d : K) → AllByRecursion (λ p. Told gk f.sinks d p.state) closed

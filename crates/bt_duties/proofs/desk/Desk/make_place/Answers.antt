@@ -27,3 +27,12 @@ returns-clause-place g c = λ _.
     let w = c.self.invariant.window in
     let s = c.self.invariant.some in
     omega arith
+
+pub returns-clause-room : goal.returns-clause-room
+returns-clause-room g c = λ _.
+    let idle = none_busy c.self.inside.duties.items (sym c.is_out.ensures ∙ c.if-is_out.false) in
+    let none = place_flushed c.self.inside.floor.ledger c.flush_all.new.self.ledger c.self.inside.duties.items c.self.invariant.dutiful c.flush_all.ensures.outs idle c.flush_all.ensures.closed in
+    let n = c.flush_all.ensures.slots in
+    let w = c.self.invariant.window in
+    let s = c.self.invariant.some in
+    omega arith
