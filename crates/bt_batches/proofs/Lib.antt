@@ -1,0 +1,4 @@
+pub mod Lists
+pub mod Gathering
+pub mod UnionLemmas
+pub mod Contents

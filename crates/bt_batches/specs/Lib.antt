@@ -1,0 +1,5 @@
+pub mod Pieces
+pub mod Grouping
+pub mod Gathered
+pub mod Archives
+pub mod Unions

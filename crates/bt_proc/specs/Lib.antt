@@ -1,0 +1,3 @@
+pub mod Procs
+pub mod Groups
+pub mod Singles
