@@ -1,0 +1,5 @@
+pub mod Along
+pub mod Building
+pub mod Piecing
+pub mod Refusing
+pub mod Whole
