@@ -30,10 +30,7 @@ refused_before a b refusal.NoMemory h = tt
 pub refused_behind : (a b : List Source) (p : List Part) (r : Refusal) → AreMade a p → AreRefused b r → AreRefused (a ++ b) r
 refused_behind a b p (refusal.Lint l) h k = first_behind a b p l h k
 refused_behind a b p refusal.NoMemory h k = tt
-<<<<<<< HEAD
-=======
 
 -- of three, the last is refused
 pub third_refused : (a b c : List Source) (p q : List Part) (r : Refusal) → AreMade a p → AreMade b q → AreRefused c r → AreRefused (a ++ (b ++ c)) r
 third_refused a b c p q r h k e = refused_behind a (b ++ c) p r h (refused_behind b c q r k e)
->>>>>>> 2d38148dcb05389927915b6ef9db3b91ecb5dcc0
