@@ -10,6 +10,7 @@ ghost use Rattle.bt_duties.specs.Stands.{IsStanding};
 ghost use Rattle.bt_moves.specs.Resting.{Emptied};
 ghost use Rattle.bt_sound.specs.Counting.{capped};
 ghost use Rattle.bt_sound.specs.Transactions.{Derived};
+ghost use Rattle.bt_sound.specs.Turns.{DeliveredInTurn};
 
 use crate::admit::{Admit, answer_of};
 use crate::duty::Duty;
@@ -178,7 +179,8 @@ impl<I: Intake, K: Sink, A: Answerer, C: Clock, D: Derive> Desk<I, K, A, C, D> {
     /// there was no memory for them. Afterwards the duty is idle.
     ///
     /// The parts are settled in order, as far as they go. Items are refused for want of memory exactly where there was none
-    /// for the parts, and then all are. Takes no memory.
+    /// for the parts, and then all are. Where the plan has no holds, the records and answers of the call are those of the
+    /// transaction alone, by its parts in order. Takes no memory.
     pub fn deliver(&mut self, duty: u32, routes: Result<Routes, NoMemory>)
         requires duty { duty < length self.old.duties }
         requires out { (duty_at self.old.duties duty).number ≢ 0 }
@@ -193,6 +195,7 @@ impl<I: Intake, K: Sink, A: Answerer, C: Clock, D: Derive> Desk<I, K, A, C, D> {
         ensures refused { IfErr routes (λ _. self.new.floor.outside ≡ record self.old.floor.outside { refused_memory = capped (self.old.floor.outside.refused_memory + (duty_at self.old.duties duty).items) }) }
         ensures window { self.new.window ≡ self.old.window }
         ensures stands { IsStanding ⟦<I as Intake>⟧ ⟦<K as Sink>⟧ ⟦<A as Answerer>⟧ ⟦<C as Clock>⟧ ⟦<D as Derive>⟧ self.new }
+        ensures turn { IfOk routes (λ r. self.old.floor.ledger.policies ≡ [] → DeliveredInTurn ⟦<K as Sink>⟧ ⟦<A as Answerer>⟧ (duty_at self.old.duties duty).number (parts_of r.parts.list) self.old.floor self.new.floor) }
     {
         let Duty { items, slot, .. } = entry(&self.duties, duty);
         self.floor.settle(slot, items, routes);

@@ -11,6 +11,7 @@ ghost use Rattle.bt_moves.specs.Moves.{Delivered, SlotStays, OutStays};
 ghost use Rattle.bt_moves.specs.Resting.{AllSettled, Resting, AtRest, Delivering, Unripe};
 ghost use Rattle.bt_sound.specs.Counting.{capped};
 ghost use Rattle.bt_sound.specs.Transactions.{Derived, given_open};
+ghost use Rattle.bt_sound.specs.Turns.{DeliveredInTurn, Turned};
 
 use crate::floor::Floor;
 use bt_demand::derive::Derive;
@@ -38,6 +39,7 @@ impl<I: Intake, K: Sink, A: Answerer, C: Clock, D: Derive> Floor<I, K, A, C, D> 
         ensures room { Roomy self.new.ledger slot part }
         ensures outs { OutStays self.old.ledger self.new.ledger }
         ensures outside { self.new.outside ≡ self.old.outside }
+        ensures unheld { self.old.ledger.policies ≡ [] → self.new ≡ self.old }
     {
         if self.has_room(slot, part) {
             return;
@@ -55,6 +57,7 @@ impl<I: Intake, K: Sink, A: Answerer, C: Clock, D: Derive> Floor<I, K, A, C, D> 
         ensures stays { SlotStays self.old.ledger self.new.ledger slot }
         ensures outs { OutStays self.old.ledger self.new.ledger }
         ensures outside { self.new.outside ≡ self.old.outside }
+        ensures turn { self.old.ledger.policies ≡ [] → Turned ⟦<K as Sink>⟧ ⟦<A as Answerer>⟧ slot part (part + 1) self.old self.new }
     {
         self.make_room(slot, part);
         if self.is_given(slot) {
@@ -72,6 +75,8 @@ impl<I: Intake, K: Sink, A: Answerer, C: Clock, D: Derive> Floor<I, K, A, C, D> 
         ensures stays { SlotStays self.old.ledger self.new.ledger slot }
         ensures outs { OutStays self.old.ledger self.new.ledger }
         ensures outside { self.new.outside ≡ self.old.outside }
+        ensures turn { self.old.ledger.policies ≡ [] → is_given (slot_at self.old.ledger slot) ≡ true → Turned ⟦<K as Sink>⟧ ⟦<A as Answerer>⟧ slot part (part + 1) self.old self.new }
+        ensures closed { is_given (slot_at self.old.ledger slot) ≡ false → self.new ≡ self.old }
     {
         if self.is_given(slot) {
             self.begin(slot, part);
@@ -87,6 +92,7 @@ impl<I: Intake, K: Sink, A: Answerer, C: Clock, D: Derive> Floor<I, K, A, C, D> 
         ensures outs { OutStays self.old.ledger self.new.ledger }
         ensures slots { length self.new.ledger.slots ≡ length self.old.ledger.slots }
         ensures outside { self.new.outside ≡ self.old.outside }
+        ensures turn { self.old.ledger.policies ≡ [] → Turned ⟦<K as Sink>⟧ ⟦<A as Answerer>⟧ slot 0 (length (parts_in (slot_at self.old.ledger slot))) self.old self.new }
     {
         for part in 0..self.parts(slot) {
             self.begin_if_given(slot, part);
@@ -105,6 +111,7 @@ impl<I: Intake, K: Sink, A: Answerer, C: Clock, D: Derive> Floor<I, K, A, C, D> 
         ensures outs { OutStays self.old.ledger self.new.ledger }
         ensures slots { length self.new.ledger.slots ≡ length self.old.ledger.slots }
         ensures outside { self.new.outside ≡ self.old.outside }
+        ensures turn { self.old.ledger.policies ≡ [] → Turned ⟦<K as Sink>⟧ ⟦<A as Answerer>⟧ slot 0 (length (parts_in (slot_at self.old.ledger slot))) self.old self.new }
     {
         self.settle_parts(slot);
     }
@@ -123,6 +130,7 @@ impl<I: Intake, K: Sink, A: Answerer, C: Clock, D: Derive> Floor<I, K, A, C, D> 
         ensures outs { OutStays (with_slot self.old.ledger slot (Given (given_open (slot_at self.old.ledger slot) (parts_of routes.parts.list)))) self.new.ledger }
         ensures slots { length self.new.ledger.slots ≡ length self.old.ledger.slots }
         ensures outside { self.new.outside ≡ self.old.outside }
+        ensures turn { self.old.ledger.policies ≡ [] → DeliveredInTurn ⟦<K as Sink>⟧ ⟦<A as Answerer>⟧ (number_in (slot_at self.old.ledger slot)) (parts_of routes.parts.list) self.old self.new }
     {
         self.give(slot, routes);
         self.finish_part(slot);
@@ -149,6 +157,7 @@ impl<I: Intake, K: Sink, A: Answerer, C: Clock, D: Derive> Floor<I, K, A, C, D> 
         ensures kept { IfOk routes (λ _. self.new.outside ≡ self.old.outside) }
         ensures refused { IfErr routes (λ _. self.new.outside ≡ record self.old.outside { refused_memory = capped (self.old.outside.refused_memory + items) }) }
         ensures ending { self.new.outside.ending ≡ self.old.outside.ending }
+        ensures turn { IfOk routes (λ r. self.old.ledger.policies ≡ [] → DeliveredInTurn ⟦<K as Sink>⟧ ⟦<A as Answerer>⟧ (number_in (slot_at self.old.ledger slot)) (parts_of r.parts.list) self.old self.new) }
     {
         match routes {
             Ok(routes) => self.deliver_routes(slot, routes),

@@ -48,6 +48,7 @@ impl<I: Intake, K: Sink, A: Answerer, C: Clock, D: Derive> Floor<I, K, A, C, D> 
         ensures outs { OutStays self.old.ledger self.new.ledger }
         ensures calm { RipensNone self.old.ledger self.new.ledger }
         ensures outside { self.new.outside ≡ self.old.outside }
+        ensures unheld { self.old.ledger.policies ≡ [] → self.new ≡ self.old }
     {
         for node in 0..self.holds() {
             self.in_order();

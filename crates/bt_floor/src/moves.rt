@@ -1,5 +1,5 @@
 //! The moves: what is put, held, released, answered, given and closed.
-ghost use Rattle.std.specs.Prelude.{◌≡◌, ℕ, ◌<◌, ◌≤◌, ◌^◌, [], length, set, get_or, MatchOption, Some, true};
+ghost use Rattle.std.specs.Prelude.{◌≡◌, ℕ, ◌+◌, ◌<◌, ◌≤◌, ◌^◌, [], length, set, get_or, MatchOption, Some, true};
 ghost use Rattle.bt_demand.specs.Find.{begun};
 ghost use Rattle.bt_demand.specs.Next.{todo};
 ghost use Rattle.bt_demand.specs.Parts.{PartsFit, parts_of};
@@ -7,7 +7,7 @@ ghost use Rattle.bt_demand.specs.Reached.{Reach};
 ghost use Rattle.bt_demand.specs.Steps.{settle, state_for};
 ghost use Rattle.bt_demand.specs.declared.todo.Todo.TheVariants.{Wait};
 ghost use Rattle.bt_ledger.specs.Calls.{IsOut};
-ghost use Rattle.bt_ledger.specs.Due.{LeastDue, unanswered};
+ghost use Rattle.bt_ledger.specs.Due.{IsDue, LeastDue, unanswered};
 ghost use Rattle.bt_ledger.specs.Ledger.{items_in, number_in, slot_at, part_tree, IsPart, IsGiven, Roomy, with_part, with_slot, open_in, answered_in};
 ghost use Rattle.bt_ledger.specs.Verdicts.{verdict_of};
 ghost use Rattle.bt_ledger.specs.declared.slot.Slot.TheVariants.{Free, Given};
@@ -18,6 +18,7 @@ ghost use Rattle.bt_sound.specs.Counting.{answer_with, count_with};
 ghost use Rattle.bt_sound.specs.Owned.{BatchFits, PutsAs, ReleasesRise};
 ghost use Rattle.bt_sound.specs.Records.{PutAt};
 ghost use Rattle.bt_sound.specs.Transactions.{Derived, given_open};
+ghost use Rattle.bt_sound.specs.Turns.{AnswererAdds, CallsFor, RecordsInTurn, SinksAdd};
 
 use crate::floor::Floor;
 use bt_chains::Entry;
@@ -39,6 +40,8 @@ impl<I: Intake, K: Sink, A: Answerer, C: Clock, D: Derive> Floor<I, K, A, C, D> 
         ensures ledger { self.new.ledger ≡ with_part self.old.ledger slot part (settle leaf (state_for result) (part_tree self.old.ledger slot part)) }
         ensures releases { self.new.releases ≡ self.old.releases }
         ensures outside { self.new.outside ≡ self.old.outside }
+        ensures adds { SinksAdd ⟦<K as Sink>⟧ (RecordsInTurn (number_in (slot_at self.old.ledger slot)) part (part + 1)) self.old.sinks self.new.sinks }
+        ensures answerer { self.new.answerer ≡ self.old.answerer }
     {
         let number = self.ledger.number(slot);
         let bytes = self.ledger.leaf_bytes(slot, part, leaf);
@@ -88,6 +91,9 @@ impl<I: Intake, K: Sink, A: Answerer, C: Clock, D: Derive> Floor<I, K, A, C, D> 
         ensures falls { unanswered (answered_in (slot_at self.new.ledger slot)) < unanswered (answered_in (slot_at self.old.ledger slot)) }
         ensures releases { self.new.releases ≡ self.old.releases }
         ensures outside { self.new.outside ≡ self.old.outside }
+        ensures sinks { self.new.sinks ≡ self.old.sinks }
+        ensures adds { AnswererAdds ⟦<A as Answerer>⟧ (CallsFor (number_in (slot_at self.old.ledger slot)) item) self.old.answerer self.new.answerer }
+        ensures dues { (i : ℕ) → IsDue (open_in (slot_at self.new.ledger slot)) i → IsDue (open_in (slot_at self.old.ledger slot)) i }
     {
         let number = self.ledger.number(slot);
         let verdict = verdict_on(&self.ledger, slot, item);
@@ -109,6 +115,8 @@ impl<I: Intake, K: Sink, A: Answerer, C: Clock, D: Derive> Floor<I, K, A, C, D> 
         ensures ledger { self.new.ledger ≡ with_slot self.old.ledger slot (Given (given_open (slot_at self.old.ledger slot) (parts_of routes.parts.list))) }
         ensures outside { self.new.outside ≡ self.old.outside }
         ensures calm { RipensNone self.old.ledger self.new.ledger }
+        ensures sinks { self.new.sinks ≡ self.old.sinks }
+        ensures answerer { self.new.answerer ≡ self.old.answerer }
     {
         let _booked = self.ledger.booked();
         self.ledger.give(slot, routes);
@@ -121,6 +129,8 @@ impl<I: Intake, K: Sink, A: Answerer, C: Clock, D: Derive> Floor<I, K, A, C, D> 
         ensures ledger { self.new.ledger ≡ with_slot self.old.ledger slot Free }
         ensures releases { self.new.releases ≡ self.old.releases }
         ensures outside { self.new.outside ≡ self.old.outside }
+        ensures sinks { self.new.sinks ≡ self.old.sinks }
+        ensures answerer { self.new.answerer ≡ self.old.answerer }
     {
         let _routes = self.ledger.close(slot);
     }

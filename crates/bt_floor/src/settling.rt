@@ -1,14 +1,15 @@
 //! Settling a part and releasing a hold, each of which may lead to the other.
-ghost use Rattle.std.specs.Prelude.{◌≡◌, ℕ, ◌<◌, ◌≤◌, [], length, MatchOption, None, Some, true};
+ghost use Rattle.std.specs.Prelude.{◌≡◌, ℕ, ◌+◌, ◌<◌, ◌≤◌, [], length, MatchOption, None, Some, true};
 ghost use Rattle.bt_demand.specs.Find.{begun, below};
 ghost use Rattle.bt_demand.specs.Flushing.{Still};
 ghost use Rattle.bt_demand.specs.Next.{todo};
 ghost use Rattle.bt_demand.specs.Reached.{Reach, NextIn};
 ghost use Rattle.bt_ledger.specs.Due.{LeastDue};
-ghost use Rattle.bt_ledger.specs.Ledger.{slot_at, part_tree, IsPart, IsGiven, Roomy, open_in, chain_at};
+ghost use Rattle.bt_ledger.specs.Ledger.{slot_at, is_given, part_tree, IsPart, IsGiven, Roomy, open_in, chain_at};
 ghost use Rattle.bt_moves.specs.Moves.{LateKeeps, LateKeepsBut, left_to_do, Keeps, KeepsBut, StepAt, Answering, RipensNone, BeginsNone, BeginsBut, OutStays};
 ghost use Rattle.bt_moves.specs.Resting.{AllSettled, AllSettledBut, AtRest};
 ghost use Rattle.bt_sound.specs.Owned.{BatchFits, ReleasesRise};
+ghost use Rattle.bt_sound.specs.Turns.{AnswererAdds, CallsDue, SameFrom, Turned};
 
 use crate::floor::Floor;
 use bt_demand::derive::Derive;
@@ -38,6 +39,10 @@ impl<I: Intake, K: Sink, A: Answerer, C: Clock, D: Derive> Floor<I, K, A, C, D> 
         ensures late { (n : ℕ) → LateKeeps n self.old.ledger self.new.ledger }
         ensures settled { AllSettled self.old.ledger → AllSettled self.new.ledger }
         ensures releases { self.new.releases ≡ self.old.releases }
+        ensures sinks { self.new.sinks ≡ self.old.sinks }
+        ensures adds { AnswererAdds ⟦<A as Answerer>⟧ (CallsDue (open_in (slot_at self.old.ledger slot))) self.old.answerer self.new.answerer }
+        ensures same { is_given (slot_at self.new.ledger slot) ≡ true → SameFrom (slot_at self.old.ledger slot) (slot_at self.new.ledger slot) }
+        ensures policies { self.new.ledger.policies ≡ self.old.ledger.policies }
     {
         self.answer_due(slot);
         if self.unanswered(slot) == 0 {
@@ -52,6 +57,8 @@ impl<I: Intake, K: Sink, A: Answerer, C: Clock, D: Derive> Floor<I, K, A, C, D> 
         ensures none { LeastDue (open_in (slot_at self.new.ledger slot)) None }
         ensures releases { self.new.releases ≡ self.old.releases }
         ensures outside { self.new.outside ≡ self.old.outside }
+        ensures sinks { self.new.sinks ≡ self.old.sinks }
+        ensures adds { AnswererAdds ⟦<A as Answerer>⟧ (CallsDue (open_in (slot_at self.old.ledger slot))) self.old.answerer self.new.answerer }
     {
         while let Some(item) = self.due(slot) {
             self.answer(slot, item);
@@ -109,6 +116,7 @@ impl<I: Intake, K: Sink, A: Answerer, C: Clock, D: Derive> Floor<I, K, A, C, D> 
         ensures outside { self.new.outside ≡ self.old.outside }
         ensures no_more { left_to_do self.new.ledger ≤ left_to_do self.old.ledger }
         ensures late { begun (part_tree self.old.ledger slot part) ≡ true → (n : ℕ) → LateKeeps n self.old.ledger self.new.ledger }
+        ensures turn { self.old.ledger.policies ≡ [] → AtRest self.old.ledger slot → Turned ⟦<K as Sink>⟧ ⟦<A as Answerer>⟧ slot part (part + 1) self.old self.new }
     {
         while self.is_given(slot) {
             match self.next(slot, part) {

@@ -16,7 +16,7 @@ use Rattle.bt_steps.proofs.BookLaws.{fresh_waits}
 use Rattle.bt_steps.proofs.HoldLaws.{count_le}
 use Rattle.bt_ledger.specs.Book.{Booked, IsFront}
 use Rattle.bt_ledger.specs.Calls.{waited, entry_of, Released as ReleasedTo, FrontReleased}
-use Rattle.bt_ledger.specs.Ledger.{Ledger, slot_at, parts_in, is_given, open_in, part_tree, IsPart, with_slot, with_part, chain_at, with_chain, over_parts}
+use Rattle.bt_ledger.specs.Ledger.{number_in, Ledger, slot_at, parts_in, is_given, open_in, part_tree, IsPart, with_slot, with_part, chain_at, with_chain, over_parts}
 use Rattle.bt_ledger.specs.Open.{tree_of, from_of, with_tree}
 use Rattle.bt_ledger.specs.declared.slot.Slot.{Slot}
 use Rattle.bt_ledger.specs.declared.slot.Slot.TheVariants.{Free, Given}
@@ -125,7 +125,7 @@ front_begun l n e f = elim (begun_or (begun (part_tree l e.slot e.part))) [
 
 -- answers of a slot
 pub answering_same : (l : Ledger) (s : ℕ) → is_given (slot_at l s) ≡ true → Answering s l l
-answering_same l s g = record { slots = refl; policies = refl; chains = refl; others = λ a d. refl; parts = refl; given = g; work = refl }
+answering_same l s g = record { slots = refl; policies = refl; chains = refl; others = λ a d. refl; parts = refl; number = refl; given = g; work = refl }
 
 pub answering_joins : (s : ℕ) (l m k : Ledger) → Answering s l m → Answering s m k → Answering s l k
 answering_joins s l m k f g = record {
@@ -134,12 +134,13 @@ answering_joins s l m k f g = record {
   chains = g.chains ∙ f.chains;
   others = λ a d. g.others a d ∙ f.others a d;
   parts = g.parts ∙ f.parts;
+  number = g.number ∙ f.number;
   given = g.given;
   work = g.work ∙ f.work;
 }
 
-pub answering_with : (l : Ledger) (s : ℕ) (x : Slot) → s < length l.slots → parts_in x ≡ parts_in (slot_at l s) → is_given x ≡ true → Answering s l (with_slot l s x)
-answering_with l s x h e g =
+pub answering_with : (l : Ledger) (s : ℕ) (x : Slot) → s < length l.slots → parts_in x ≡ parts_in (slot_at l s) → number_in x ≡ number_in (slot_at l s) → is_given x ≡ true → Answering s l (with_slot l s x)
+answering_with l s x h e n g =
     let same : slot_at (with_slot l s x) s ≡ x = get_or-set_same l.slots s x Free h in
     record {
       slots = length-set l.slots s x;
@@ -147,6 +148,7 @@ answering_with l s x h e g =
       chains = refl;
       others = λ a d. get_or-set_other l.slots s a x Free d;
       parts = ap parts_in same ∙ e;
+      number = ap number_in same ∙ n;
       given = ap is_given same ∙ g;
       work = (let a = slots_set work l.slots s x h in let b = ap (over_parts work) e in omega arith);
     }

@@ -5,7 +5,7 @@ use Rattle.bt_demand.specs.Find.{begun}
 use Rattle.bt_demand.specs.Flushing.{Still, Late}
 use Rattle.bt_demand.specs.Next.{todo}
 use Rattle.bt_demand.specs.Work.{work}
-use Rattle.bt_ledger.specs.Ledger.{Ledger, slot_at, parts_in, part_tree, is_free, is_given, over_slots, held, IsPart, chain_at}
+use Rattle.bt_ledger.specs.Ledger.{Ledger, slot_at, number_in, parts_in, part_tree, is_free, is_given, over_slots, held, IsPart, chain_at}
 use Rattle.bt_ledger.specs.declared.slot.Slot.{Slot}
 use Rattle.bt_moves.specs.Resting.{AtRest, Unripe}
 
@@ -50,6 +50,7 @@ pub record Answering (s : ℕ) (l m : Ledger) : Type 0 where
   pub chains : m.chains ≡ l.chains
   pub others : (a : ℕ) → a ≢ s → slot_at m a ≡ slot_at l a
   pub parts : parts_in (slot_at m s) ≡ parts_in (slot_at l s)
+  pub number : number_in (slot_at m s) ≡ number_in (slot_at l s)
   pub given : is_given (slot_at m s) ≡ true
   pub work : over_slots work m.slots ≡ over_slots work l.slots
 

@@ -11,4 +11,5 @@ pub mod Settled
 pub mod Slots
 pub mod Steps
 pub mod Taking
+pub mod Turns
 pub mod Verdicts

@@ -5,4 +5,5 @@ pub mod Owned
 pub mod Records
 pub mod Sound
 pub mod Transactions
+pub mod Turns
 pub mod View

@@ -32,6 +32,7 @@ Told g ks d o = (p : ℕ) → EachLeaf (λ k l x. LeafTold g ks d o.number p k l
 
 -- what a sink went through as one record was put, which it accepted or not
 pub record PutOne {K : Type 0} (g : Sink.Ghosts K) (j k : K) (r : Record) (ok : Bool) : Type 0 where
+  pub place : g.place k ≡ g.place j
   pub counted : g.faults j ≤ g.faults k
   pub failed : ok ≡ false → Rose (g.faults j) (g.faults k)
   pub told : IsTrue (g.tells k) → IsTrue (g.tells j)

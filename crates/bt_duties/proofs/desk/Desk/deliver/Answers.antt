@@ -1,4 +1,4 @@
-use Rattle.std.proofs.Common.{◌≢◌, ◌<◌, sym, subst, length, IfOk}
+use Rattle.std.proofs.Common.{◌≢◌, ◌<◌, sym, subst, length, IfOk, ◌≡◌, []}
 use Rattle.bt_duties.specs.DeskView.{DeskView}
 use Rattle.bt_duties.specs.Duties.{duty_at}
 use Rattle.bt_demand.specs.Parts.{parts_of}
@@ -7,6 +7,7 @@ use Rattle.bt_duties.proofs.Standings.{standing_delivered}
 use Rattle.bt_ledger.specs.Ledger.{slot_at, number_in}
 use Rattle.bt_moves.specs.Moves.{Delivered}
 use Rattle.bt_sound.specs.Transactions.{Derived}
+use Rattle.bt_sound.specs.Turns.{DeliveredInTurn}
 use Rattle.bt_duties.proofs.desk.Desk.deliver.Goals as goal
 
 pub settle-requires-clause-derived : goal.settle-requires-clause-derived
@@ -24,3 +25,11 @@ invariant_of-self g c =
     (subst (λ (v : DeskView _ _ _ _ _). c.args.duty < length v.duties) (sym c.self.view_is) c.requires.duty)
     (subst (λ (v : DeskView _ _ _ _ _). (duty_at v.duties c.args.duty).number ≢ 0) (sym c.self.view_is) c.requires.out)
     c.settle.ensures.resting (subst (λ (x : Duty). Delivered x.slot c.self.inside.floor.ledger c.settle.new.self.ledger) c.entry-items.ensures c.settle.ensures.delivered) c.settle.ensures.slots c.settle.ensures.ending
+
+pub returns-clause-turn : goal.returns-clause-turn
+returns-clause-turn g c =
+    let b = subst (λ (v : DeskView _ _ _ _ _). (duty_at v.duties c.args.duty).number ≢ 0) (sym c.self.view_is) c.requires.out in
+    let n = c.self.invariant.dutiful.known c.args.duty b in
+    subst (λ (v : DeskView _ _ _ _ _). IfOk c.args.routes (λ r. v.floor.ledger.policies ≡ [] → DeliveredInTurn g.K.Sink g.A.Answerer (duty_at v.duties c.args.duty).number (parts_of r.parts.list) v.floor c.settle.new.self)) c.self.view_is
+    (subst (λ k. IfOk c.args.routes (λ r. c.self.inside.floor.ledger.policies ≡ [] → DeliveredInTurn g.K.Sink g.A.Answerer k (parts_of r.parts.list) c.self.inside.floor c.settle.new.self)) n.number
+    (subst (λ (x : Duty). IfOk c.args.routes (λ r. c.self.inside.floor.ledger.policies ≡ [] → DeliveredInTurn g.K.Sink g.A.Answerer (number_in (slot_at c.self.inside.floor.ledger x.slot)) (parts_of r.parts.list) c.self.inside.floor c.settle.new.self)) c.entry-items.ensures c.settle.ensures.turn))

@@ -1,22 +1,25 @@
-use Rattle.std.proofs.Common.{◌≡◌, arith, refl, sym, ap, ◌∙◌, subst, Some, true, inl}
+use Rattle.std.proofs.Common.{◌≡◌, arith, refl, sym, ap, ◌∙◌, subst, Some, true, inl, ◌+◌, length}
 use Rattle.bt_demand.specs.Find.{begun}
 use Rattle.bt_demand.specs.Next.{todo}
 use Rattle.bt_demand.specs.Steps.{settle, state_for}
 use Rattle.bt_demand.specs.declared.todo.Todo.TheVariants.{Put}
-use Rattle.bt_ledger.specs.Ledger.{slot_at, part_tree, is_given}
+use Rattle.bt_ledger.specs.Ledger.{slot_at, part_tree, is_given, number_in}
 use Rattle.bt_moves.specs.Moves.{left_to_do, StepAt}
 use Rattle.bt_demand.proofs.Flushing.{late_next}
-use Rattle.bt_moves.proofs.Keeping.{but_step, but_keeps, but_closes, keeps_but, begun_room, part_stays}
+use Rattle.bt_moves.proofs.Keeping.{but_step, but_keeps, but_closes, keeps_but, begun_room, part_stays, but_same, given_true}
 use Rattle.bt_moves.proofs.Moves.{step_with, put_falls}
 use Rattle.bt_leaves.proofs.Begun.{put_begins}
 use Rattle.bt_moves.specs.Moves.{LateKeepsBut}
-use Rattle.bt_moves.proofs.Lateness.{late_joins, but_joins_late, keeps_but_late, above_keeps, late_put}
-use Rattle.bt_moves.proofs.Outs.{outs_step, outs_joins}
+use Rattle.bt_moves.proofs.Lateness.{late_joins, but_joins_late, keeps_but_late, above_keeps, late_put, late_same}
+use Rattle.bt_moves.proofs.Outs.{outs_step, outs_joins, outs_same}
 use Rattle.bt_moves.proofs.Beginning.{fresh_over}
 use Rattle.bt_moves.proofs.Ripening.{calms_put, calms_but, empty_unripe}
 use Rattle.bt_moves.proofs.Settling.{settled_put}
 use Rattle.bt_sound.specs.Owned.{BatchFits}
 use Rattle.bt_sound.proofs.Owned.{fits_later, rise_same, rise_joins}
+use Rattle.bt_ledger.specs.Calls.{TodoFits}
+use Rattle.bt_sound.specs.Turns.{RecordsInTurn, SinksAdd}
+use Rattle.bt_sound.proofs.Turns.{no_hold, only_step, puts_again, turned_part, only_same, sinks_same}
 use Rattle.bt_floor.proofs.floor.Floor.+settling.Goals as goal
 
 pub settle_part-put-accepted-requires-clause-puts : goal.settle_part-put-accepted-requires-clause-puts
@@ -55,6 +58,14 @@ settle_part-loop-self-preserved-in-Put-1 g t c =
       settled = rw e (settled_put l c.args.slot c.args.part c.in-Some-Put.leaf c.put-accepted.result part c.loop-self.invariant.settled);
       rise = rise_same c.args.self.now.releases c.loop-self.self.releases c.put-accepted.new.self.releases c.loop-self.invariant.rise c.put-accepted.ensures.releases;
       outside = c.put-accepted.ensures.outside ∙ c.loop-self.invariant.outside;
+      turn = λ q.
+          (let i = c.loop-self.invariant.turn q in (
+            only_step l c.put-accepted.new.self.ledger (slot_at c.args.self.now.ledger c.args.slot) c.args.slot c.args.part u part e i.0,
+            (
+              puts_again g.K.Sink c.args.self.now.sinks c.loop-self.self.sinks c.put-accepted.new.self.sinks (number_in (slot_at c.args.self.now.ledger c.args.slot)) c.args.part i.1.0 (subst (λ n. SinksAdd g.K.Sink (RecordsInTurn n c.args.part (c.args.part + 1)) c.loop-self.self.sinks c.put-accepted.new.self.sinks) i.0.same.number c.put-accepted.ensures.adds),
+              c.put-accepted.ensures.answerer ∙ i.1.1,
+            ),
+          ));
       no_more = omega arith;
     }
 
@@ -74,6 +85,7 @@ settle_part-loop-self-preserved-in-Some g t c =
       settled = c.release.ensures.settled;
       rise = rise_joins c.args.self.now.releases c.wait.new.self.releases c.release.new.self.releases (rise_same c.args.self.now.releases c.loop-self.self.releases c.wait.new.self.releases c.loop-self.invariant.rise c.wait.ensures.releases) c.release.ensures.rise;
       room = λ e. begun_room c.release.new.self.ledger c.args.slot c.args.part ((c.release.ensures.others.stays c.args.slot e).2 c.args.part c.wait.ensures.step.begins);
+      turn = λ q. absurd (no_hold c.args.self.now.ledger.policies c.loop-self.self.ledger.policies c.in-Some-Wait.node c.loop-self.invariant.others.policies q (subst (λ r. TodoFits (length c.loop-self.self.ledger.policies) r) (c.in-Some-Wait.is ∙ ap Some c.in-Some-Wait.field-0-is) c.next.ensures.known));
       no_more = omega arith;
     }
 
@@ -119,6 +131,7 @@ settle_part-loop-self-preserved g t c =
       outs = outs_joins c.args.self.now.ledger c.loop-self.self.ledger c.wait.new.self.ledger c.loop-self.invariant.outs (outs_step c.args.slot c.args.part c.loop-self.self.ledger c.wait.new.self.ledger c.wait.ensures.step);
       calm = λ n h. calms_but c.in-Some-Wait.node c.loop-self.self.ledger c.wait.new.self.ledger c.wait.ensures.calm (sym c.ripe.ensures ∙ c.in-None.is) n (c.loop-self.invariant.calm n h);
       outside = c.wait.ensures.outside ∙ c.loop-self.invariant.outside;
+      turn = λ q. absurd (no_hold c.args.self.now.ledger.policies c.loop-self.self.ledger.policies c.in-Some-Wait.node c.loop-self.invariant.others.policies q (subst (λ r. TodoFits (length c.loop-self.self.ledger.policies) r) (c.in-Some-Wait.is ∙ ap Some c.in-Some-Wait.field-0-is) c.next.ensures.known));
       no_more = omega arith;
     }
 
@@ -130,3 +143,28 @@ release-returns-clause-late g t c = λ n h. subst (λ k. LateKeepsBut c.args.nod
 
 pub settle_part-returns-in_default-clause-outs : goal.settle_part-returns-in_default-clause-outs
 settle_part-returns-in_default-clause-outs g t c = outs_joins c.args.self.now.ledger c.loop-self.self.ledger c.finish_part.new.self.ledger c.loop-self.invariant.outs c.finish_part.ensures.outs
+
+pub settle_part-returns-in_default-clause-turn : goal.settle_part-returns-in_default-clause-turn
+settle_part-returns-in_default-clause-turn g t c = λ q rest.
+    let i = c.loop-self.invariant.turn q in
+    turned_part g.K.Sink g.A.Answerer c.args.slot c.args.part c.args.self.now c.loop-self.self c.finish_part.new.self rest i.0 i.1.0 i.1.1 c.finish_part.ensures.sinks c.finish_part.ensures.adds c.finish_part.ensures.same (c.finish_part.ensures.policies ∙ c.loop-self.invariant.others.policies)
+
+pub settle_part-loop-self-init : goal.settle_part-loop-self-init
+settle_part-loop-self-init g t c =
+    let l = c.args.self.now.ledger in
+    record {
+      others = but_same c.args.slot c.args.part l;
+      late = λ b n. late_same n l;
+      room = λ e. c.requires.room;
+      fresh = λ a b d f. f;
+      outs = outs_same l;
+      calm = λ n h. h;
+      outside = refl;
+      settled = c.requires.settled;
+      rise = λ n. omega arith;
+      turn = λ q. (
+        only_same c.args.part (slot_at l c.args.slot) (given_true (slot_at l c.args.slot) c.args.part c.requires.part.1),
+        (sinks_same g.K.Sink (RecordsInTurn (number_in (slot_at l c.args.slot)) c.args.part (c.args.part + 1)) c.args.self.now.sinks tt, refl),
+      );
+      no_more = omega arith;
+    }

@@ -1,7 +1,7 @@
-use Rattle.std.proofs.Common.{◌≡◌, arith, sym, ap, ◌∙◌, subst, length, false, length-set}
+use Rattle.std.proofs.Common.{◌≡◌, arith, sym, ap, ◌∙◌, subst, length, false, length-set, refl, true}
 use Rattle.bt_demand.specs.Find.{begun}
 use Rattle.bt_demand.specs.Parts.{parts_of}
-use Rattle.bt_ledger.specs.Ledger.{Ledger, slot_at, IsGiven, part_tree, parts_in}
+use Rattle.bt_ledger.specs.Ledger.{Ledger, slot_at, IsGiven, part_tree, parts_in, open_in, is_given}
 use Rattle.bt_ledger.specs.Open.{tree_of}
 use Rattle.bt_ledger.specs.declared.slot.Slot.TheVariants.{Given}
 use Rattle.bt_sound.specs.Transactions.{given_open}
@@ -11,6 +11,9 @@ use Rattle.bt_moves.specs.Moves.{OutStays}
 use Rattle.bt_moves.proofs.Outs.{outs_joins}
 use Rattle.bt_moves.specs.Resting.{AllSettled}
 use Rattle.bt_moves.proofs.Settling.{give_settled}
+use Rattle.bt_moves.proofs.Periods.{true_false}
+use Rattle.bt_sound.specs.Turns.{AnswererAdds, CallsDue, SameFrom}
+use Rattle.bt_sound.proofs.Turns.{delivered_turn}
 use Rattle.bt_floor.proofs.floor.Floor.deliver_routes.Goals as goal
 
 pub finish_part-requires-clause-given : goal.finish_part-requires-clause-given
@@ -83,3 +86,23 @@ returns-then-is_given-clause-outs g c = subst (λ (q : Ledger). OutStays q c.del
 
 pub returns-else-is_given-clause-outs : goal.returns-else-is_given-clause-outs
 returns-else-is_given-clause-outs g c = subst (λ (q : Ledger). OutStays q c.finish_part.new.self.ledger) c.give.ensures.ledger c.finish_part.ensures.outs
+
+pub returns-then-is_given-clause-turn : goal.returns-then-is_given-clause-turn
+returns-then-is_given-clause-turn g c = λ q.
+    let m = c.finish_part.new.self in
+    let e = ap (λ k. slot_at k c.args.slot) c.give.ensures.ledger ∙ given_slot c.args.self.now.ledger c.args.slot (given_open (slot_at c.args.self.now.ledger c.args.slot) (parts_of c.args.routes.parts.list)) c.requires.within in
+    let calls = subst (λ a. AnswererAdds g.A.Answerer (CallsDue (given_open (slot_at c.args.self.now.ledger c.args.slot) (parts_of c.args.routes.parts.list))) a m.answerer) c.give.ensures.answerer (subst (λ y. AnswererAdds g.A.Answerer (CallsDue (open_in y)) c.give.new.self.answerer m.answerer) e c.finish_part.ensures.adds) in
+    let same : is_given (slot_at m.ledger c.args.slot) ≡ true → SameFrom (Given (given_open (slot_at c.args.self.now.ledger c.args.slot) (parts_of c.args.routes.parts.list))) (slot_at m.ledger c.args.slot) = λ h. subst (λ y. SameFrom y (slot_at m.ledger c.args.slot)) e (c.finish_part.ensures.same h) in
+    delivered_turn g.K.Sink g.A.Answerer c.args.slot (slot_at c.args.self.now.ledger c.args.slot) (parts_of c.args.routes.parts.list) c.args.self.now m c.deliver.new.self (c.finish_part.ensures.sinks ∙ c.give.ensures.sinks) calls same
+    (λ h. c.deliver.ensures.turn (c.finish_part.ensures.policies ∙ (ap (λ (k : Ledger). k.policies) c.give.ensures.ledger ∙ q)))
+    (λ h. absurd (true_false _ (sym c.is_given.ensures ∙ c.if-is_given.true) h))
+
+pub returns-else-is_given-clause-turn : goal.returns-else-is_given-clause-turn
+returns-else-is_given-clause-turn g c = λ q.
+    let m = c.finish_part.new.self in
+    let e = ap (λ k. slot_at k c.args.slot) c.give.ensures.ledger ∙ given_slot c.args.self.now.ledger c.args.slot (given_open (slot_at c.args.self.now.ledger c.args.slot) (parts_of c.args.routes.parts.list)) c.requires.within in
+    let calls = subst (λ a. AnswererAdds g.A.Answerer (CallsDue (given_open (slot_at c.args.self.now.ledger c.args.slot) (parts_of c.args.routes.parts.list))) a m.answerer) c.give.ensures.answerer (subst (λ y. AnswererAdds g.A.Answerer (CallsDue (open_in y)) c.give.new.self.answerer m.answerer) e c.finish_part.ensures.adds) in
+    let same : is_given (slot_at m.ledger c.args.slot) ≡ true → SameFrom (Given (given_open (slot_at c.args.self.now.ledger c.args.slot) (parts_of c.args.routes.parts.list))) (slot_at m.ledger c.args.slot) = λ h. subst (λ y. SameFrom y (slot_at m.ledger c.args.slot)) e (c.finish_part.ensures.same h) in
+    delivered_turn g.K.Sink g.A.Answerer c.args.slot (slot_at c.args.self.now.ledger c.args.slot) (parts_of c.args.routes.parts.list) c.args.self.now m m (c.finish_part.ensures.sinks ∙ c.give.ensures.sinks) calls same
+    (λ h. absurd (true_false _ h (sym c.is_given.ensures ∙ c.if-is_given.false)))
+    (λ h. refl)

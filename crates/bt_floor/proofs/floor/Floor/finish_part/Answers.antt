@@ -1,12 +1,15 @@
-use Rattle.std.proofs.Common.{◌<◌, arith, ap, length}
+use Rattle.std.proofs.Common.{◌<◌, arith, ap, length, subst, sym, ◌∙◌}
 use Rattle.bt_moves.specs.Moves.{left_to_do}
-use Rattle.bt_moves.proofs.Moves.{closed_left}
-use Rattle.bt_ledger.specs.Ledger.{held_in}
+use Rattle.bt_moves.proofs.Moves.{closed_left, closed_free}
+use Rattle.bt_ledger.specs.Ledger.{held_in, Ledger, slot_at, open_in, is_given}
 use Rattle.bt_moves.proofs.Lateness.{late_joins, late_answering, late_close}
 use Rattle.bt_moves.proofs.Outs.{outs_joins, outs_answering, outs_close}
 use Rattle.bt_moves.proofs.Beginning.{fresh_answering, fresh_close}
 use Rattle.bt_moves.proofs.Ripening.{calms_answering, calms_close}
 use Rattle.bt_moves.proofs.Settling.{answering_settled, close_settled}
+use Rattle.bt_moves.proofs.Periods.{true_false}
+use Rattle.bt_sound.specs.Turns.{AnswererAdds, CallsDue}
+use Rattle.bt_sound.proofs.Turns.{same_answering}
 use Rattle.bt_floor.proofs.floor.Floor.finish_part.Goals as goal
 
 pub returns-then-unanswered-eq0-clause-no_more : goal.returns-then-unanswered-eq0-clause-no_more
@@ -70,3 +73,19 @@ returns-then-unanswered-eq0-clause-settled g c =
 
 pub returns-else-unanswered-eq0-clause-settled : goal.returns-else-unanswered-eq0-clause-settled
 returns-else-unanswered-eq0-clause-settled g c = answering_settled c.args.slot c.args.self.now.ledger c.answer_due.new.self.ledger c.answer_due.ensures.answering
+
+pub returns-then-unanswered-eq0-clause-adds : goal.returns-then-unanswered-eq0-clause-adds
+returns-then-unanswered-eq0-clause-adds g c = subst (λ a. AnswererAdds g.A.Answerer (CallsDue (open_in (slot_at c.args.self.now.ledger c.args.slot))) c.args.self.now.answerer a) (sym c.close.ensures.answerer) c.answer_due.ensures.adds
+
+pub returns-then-unanswered-eq0-clause-same : goal.returns-then-unanswered-eq0-clause-same
+returns-then-unanswered-eq0-clause-same g c =
+    let m = c.answer_due.new.self.ledger in
+    let s = c.answer_due.ensures.answering.slots in
+    let within : c.args.slot < length m.slots = (let r = c.requires.given.0 in omega arith) in
+    λ e. absurd (true_false _ e (ap (λ k. is_given (slot_at k c.args.slot)) c.close.ensures.ledger ∙ closed_free m c.args.slot within))
+
+pub returns-else-unanswered-eq0-clause-same : goal.returns-else-unanswered-eq0-clause-same
+returns-else-unanswered-eq0-clause-same g c = λ e. same_answering c.args.slot c.args.self.now.ledger c.answer_due.new.self.ledger c.answer_due.ensures.answering
+
+pub returns-then-unanswered-eq0-clause-policies : goal.returns-then-unanswered-eq0-clause-policies
+returns-then-unanswered-eq0-clause-policies g c = ap (λ (k : Ledger). k.policies) c.close.ensures.ledger ∙ c.answer_due.ensures.answering.policies

@@ -5,6 +5,7 @@ use Rattle.bt_moves.proofs.Keeping.{keeps_joins, keeps_same}
 use Rattle.bt_moves.proofs.Outs.{outs_same, outs_joins}
 use Rattle.bt_moves.proofs.Ordering.{still_after, late_all}
 use Rattle.bt_moves.proofs.Delivering.{one_more_empty, emptied_by}
+use Rattle.bt_sound.proofs.Turns.{no_hold}
 use Rattle.bt_floor.proofs.floor.Floor.flush.Goals as goal
 
 pub loop-node-init : goal.loop-node-init
@@ -15,6 +16,7 @@ loop-node-init g c = record {
   calm = λ n h. h;
   outside = refl;
   settled = c.requires.settled;
+  unheld = λ q. refl;
   empties = λ j w. absurd (omega arith);
 }
 
@@ -33,6 +35,7 @@ loop-node-preserved g c =
       calm = λ n h. c.flush_one.ensures.calm n (i.calm n h);
       outside = c.flush_one.ensures.outside ∙ i.outside;
       settled = c.flush_one.ensures.settled;
+      unheld = λ q. absurd (no_hold a.policies l.policies c.loop-node.node i.others.policies q (let h = c.holds-node-end.ensures in let p = ap (λ (k : List HoldPolicy). length k) i.others.policies in omega arith));
       empties = one_more_empty l m c.loop-node.node i.empties late.1 c.flush_one.ensures.empties;
     }
 

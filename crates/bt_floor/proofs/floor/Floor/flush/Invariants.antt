@@ -12,5 +12,6 @@ invariant-loop-node g l = record {
   calm : RipensNone l.initial.self.ledger l.self.ledger;
   outside : l.self.outside ≡ l.initial.self.outside;
   settled : AllSettled l.self.ledger;
+  unheld : l.initial.self.ledger.policies ≡ [] → l.self ≡ l.initial.self;
   empties : (j : ℕ) → j < l.node → chain_at l.self.ledger j ≡ [];
 }

@@ -1,7 +1,7 @@
-use Rattle.std.proofs.Common.{arith, refl, sym, ap, subst}
+use Rattle.std.proofs.Common.{arith, refl, sym, ap, subst, ◌+◌}
 use Rattle.bt_demand.specs.Holding.{is_open}
 use Rattle.bt_demand.specs.Steps.{state_for}
-use Rattle.bt_ledger.specs.Ledger.{slot_at, part_tree, parts_in, IsPart}
+use Rattle.bt_ledger.specs.Ledger.{slot_at, part_tree, parts_in, IsPart, number_in}
 use Rattle.bt_demand.specs.Reached.{IsNext}
 use Rattle.bt_sound.specs.Owned.{PutsAs}
 use Rattle.bt_sound.specs.View.{FloorView}
@@ -10,6 +10,8 @@ use Rattle.bt_sound.proofs.Owned.{puts_next}
 use Rattle.bt_sound.proofs.Steps.{sound_put, well_formed_at}
 use Rattle.bt_leaves.proofs.NextLeaf.{to_put_bytes, put_in_range, next_open}
 use Rattle.bt_leaves.proofs.Kept.{untried_settle}
+use Rattle.bt_sound.specs.Turns.{RecordsInTurn, SinksAdd}
+use Rattle.bt_sound.proofs.Turns.{put_adds}
 use Rattle.bt_floor.proofs.floor.Floor.put.Goals as goal
 
 pub leaf_bytes-bytes-requires-clause-leaf : goal.leaf_bytes-bytes-requires-clause-leaf
@@ -42,3 +44,8 @@ invariant_of-self g c =
       sound_put _ _ _ _ _ _ c.self.invariant.0 c.args.slot c.args.part c.args.leaf c.args.sink _ c.write-accepted.result _ c.self.invariant.1 part puts c.leaf_bytes-bytes.ensures c.write-accepted.ensures c.number-number.ensures refl refl
           (untried_settle c.args.leaf (state_for c.write-accepted.result) (part_tree c.self.inside.ledger c.args.slot c.args.part)) (ap is_open (next_open c.args.leaf c.args.sink (part_tree c.self.inside.ledger c.args.slot c.args.part) next)),
     )
+
+pub returns-clause-adds : goal.returns-clause-adds
+returns-clause-adds g c =
+    subst (λ (v : FloorView _ _ _ _ _). SinksAdd g.K.Sink (RecordsInTurn (number_in (slot_at v.ledger c.args.slot)) c.args.part (c.args.part + 1)) v.sinks c.write-accepted.new.sinks.items) c.self.view_is
+    (put_adds g.K.Sink c.self.inside.sinks.items c.write-accepted.new.sinks.items c.args.sink _ c.write-accepted.result (number_in (slot_at c.self.inside.ledger c.args.slot)) c.args.part c.write-accepted.ensures c.number-number.ensures refl)
