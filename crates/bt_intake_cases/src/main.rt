@@ -10,7 +10,7 @@
 //! buffers that were read into stand behind it.
 #![tactic(auto)]
 
-ghost use Rattle.std.specs.Prelude.{◌≡◌, ◌≤◌, ◌^◌, length, IfOk, true};
+ghost use Rattle.std.specs.Prelude.{◌≡◌, ◌≤◌, ◌^◌, length, IfOk, None, true};
 ghost use Rattle.std.specs.List.{All};
 
 use bt_intake::intake::LineIntake;
@@ -180,26 +180,29 @@ fn check(alloc: Global, line: &str) -> Option<Ready> {
     ready(alloc, mapping).ok()
 }
 
-// What the intake of the case gives.
-fn given(alloc: Global, line: &str) -> Result<String, NoMemory> {
+// The intake of the case.
+fn intake(alloc: Global, line: &str) -> Result<LineIntake<Measured>, NoMemory>
+    ensures { IfOk result (λ i. i.stopped ≡ None) }
+{
     let bound = number(line, "bound").min(1_000_000);
     let policy = Policy {
         count: number(line, "count").min(1000) as u32,
         byte_size: number(line, "size"),
         check: check(alloc, line),
     };
-    let mut intake = LineIntake::make(
-        alloc,
-        sources(alloc, line)?,
-        delimiter(alloc, line)?,
-        policy,
-        bound,
-    )?;
-    let mut text = String::new(alloc);
+    let delimiter = delimiter(alloc, line)?;
+    let sources = sources(alloc, line)?;
+    Ok(LineIntake::make(alloc, sources, delimiter, policy, bound)?)
+}
+
+// Puts what an intake gives.
+fn push_answers(text: &mut String, intake: &mut LineIntake<Measured>) -> Result<(), NoMemory>
+    requires { intake.old.stopped ≡ None }
+{
     'answers: for _ in 0..1000 {
         let last = match intake.next() {
             Next::Batch(items) => {
-                push_items(&mut text, &items)?;
+                push_items(text, &items)?;
                 continue;
             }
             Next::End => " end",
@@ -214,6 +217,14 @@ fn given(alloc: Global, line: &str) -> Result<String, NoMemory> {
         text.push_str(last)?;
         break;
     }
+    Ok(())
+}
+
+// What the intake of the case gives.
+fn given(alloc: Global, line: &str) -> Result<String, NoMemory> {
+    let mut intake = intake(alloc, line)?;
+    let mut text = String::new(alloc);
+    push_answers(&mut text, &mut intake)?;
     if !field(line, "sizes").is_empty() {
         push_sizes(&mut text, intake.into_sources().as_slice())?;
     }
