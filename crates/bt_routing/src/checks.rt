@@ -6,7 +6,8 @@ ghost use Rattle.bt_meaning.specs.Mapped.{checks};
 ghost use Rattle.bt_outputs.specs.Asked as asked;
 ghost use Rattle.bt_routing.specs.Blank.{blank};
 
-use bt_mappings::{Spot, This, asks, check, check_seen};
+use bt_contexts::This;
+use bt_mappings::{Spot, asks, check, check_seen};
 use bt_outputs::{Output, OutputCase};
 use bt_ports::NoMemory;
 use bt_ready::Ready;

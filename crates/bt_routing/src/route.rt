@@ -8,8 +8,9 @@ ghost use Rattle.bt_routing.specs.Blank.{blank, case_routes, IsCase};
 
 use crate::checks::{ends, passes, some_asks};
 use crate::demands::{all, behind, first, hold, leaf, matched, number, or_dropped};
+use bt_contexts::This;
 use bt_demand::demand::Demand;
-use bt_mappings::{Spot, This, document, interpolate, this_failure};
+use bt_mappings::{Spot, document, interpolate, this_failure};
 use bt_outputs::{Output, OutputCase, Shift};
 use bt_ports::NoMemory;
 use bt_ports::text::Text;
