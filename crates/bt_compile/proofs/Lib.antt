@@ -1,0 +1,4 @@
+pub mod Finds
+pub mod Idle
+pub mod Listing
+pub mod Twice
