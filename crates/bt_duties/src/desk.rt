@@ -110,6 +110,7 @@ impl<I: Intake, K: Sink, A: Answerer, C: Clock, D: Derive> Desk<I, K, A, C, D> {
         requires idle { (duty_at self.old.duties duty).number ≡ 0 }
         requires goes { self.old.floor.outside.ending ≡ None }
         ensures admits { Admits ⟦<I as Intake>⟧ ⟦<C as Clock>⟧ duty result self.old self.new }
+        ensures many { length self.new.duties ≡ length self.old.duties }
         ensures window { self.new.window ≡ self.old.window }
         ensures stands { IsStanding ⟦<I as Intake>⟧ ⟦<K as Sink>⟧ ⟦<A as Answerer>⟧ ⟦<C as Clock>⟧ ⟦<D as Derive>⟧ self.new }
     {
@@ -157,6 +158,7 @@ impl<I: Intake, K: Sink, A: Answerer, C: Clock, D: Derive> Desk<I, K, A, C, D> {
         requires idle { (duty_at self.old.duties duty).number ≡ 0 }
         requires goes { self.old.floor.outside.ending ≡ None }
         requires place { opened self.old.floor.ledger < length self.old.floor.ledger.slots }
+        ensures many { length self.new.duties ≡ length self.old.duties }
         ensures window { self.new.window ≡ self.old.window }
         ensures admits { Admits ⟦<I as Intake>⟧ ⟦<C as Clock>⟧ duty result self.old self.new }
     {
@@ -189,6 +191,7 @@ impl<I: Intake, K: Sink, A: Answerer, C: Clock, D: Derive> Desk<I, K, A, C, D> {
         requires none { IfOk routes (λ r. r.counts.list ≡ []) }
         requires room { IfOk routes (λ r. (duty_at self.old.duties duty).items ≤ r.counts.spare) }
         requires derived { IfOk routes (λ r. Derived ⟦<I as Intake>⟧ ⟦<C as Clock>⟧ ⟦<D as Derive>⟧ self.old.floor.outside (duty_at self.old.duties duty).number (parts_of r.parts.list)) }
+        ensures many { length self.new.duties ≡ length self.old.duties }
         ensures idle { duty_at self.new.duties duty ≡ idle }
         ensures others { (j : ℕ) → j ≢ duty → duty_at self.new.duties j ≡ duty_at self.old.duties j }
         ensures kept { IfOk routes (λ _. self.new.floor.outside ≡ self.old.floor.outside) }

@@ -1,7 +1,11 @@
-use Rattle.std.proofs.Common.{◌∙◌, [], ap, map, subst, sym, rules}
-use Rattle.bt_making.specs.Sources.{AreMade, AreRefused}
+use Rattle.std.proofs.Common.{◌∙◌, ◌∷◌, ◌++◌, [], ℕ, List, ap, map, subst, sym, rules}
+use Rattle.std.specs.Prelude.{codes}
+use Rattle.bt_schema.specs.declared.forms.Language.TheVariants as language
+use Rattle.bt_making.specs.Sources.{AreMade, AreRefused, mapping}
+use Rattle.bt_making.proofs.Along.{refused_behind}
 use Rattle.bt_compile.specs.Made.{blank_group, blanked, group_parts, in_group, joined, parts}
-use Rattle.bt_compile.specs.Outlines.{listed}
+use Rattle.bt_compile.specs.Outlines.{below, listed, text_as}
+use Rattle.bt_compile.specs.Reading as spec
 use Rattle.bt_compile.specs.Reading.{Reading, reading}
 use Rattle.bt_compile.proofs.Finds.{none_met}
 use Rattle.bt_compile.proofs.Idle.{idle_blank, idle_parts}
@@ -68,3 +72,15 @@ each_group-returns-clause-made t c =
     (sym (map_twice group_parts (in_group parts) c.loop-i.out))
     (all_made (λ k. blank_group (in_group blanked k)) (λ k. group_parts (in_group parts k)) (λ r. r.group)
     c.as_slice-item-items.result.now c.args.items.now c.args.at.now c.loop-i.i c.loop-i.out c.as_slice-item-items.ensures c.loop-i-test.false c.loop-i.invariant)
+
+pub group_in-returns-in_err-processors-clause-refused : goal.group_in-returns-in_err-processors-clause-refused
+group_in-returns-in_err-processors-clause-refused t c =
+    let ms = spec.met c.args.fields.now in
+    let check = (spec.text_at language.Check (codes "check") ms).texts c.args.at.now in
+    let inside = (spec.processors_at (codes "processors") ms).texts c.args.at.now in
+    let made : AreMade check (mapping c.in_ok-check.check ∷ []) =
+    subst (λ (text : List ℕ). AreMade ((below (codes "check") (text_as language.Check text)).texts c.args.at.now) (mapping c.in_ok-check.check ∷ []))
+    c.text_at.ensures c.in_ok-check.ensures.made in
+    let refused : AreRefused (check ++ inside) c.in_err-processors.field-0.0 =
+    refused_behind check inside (mapping c.in_ok-check.check ∷ []) c.in_err-processors.field-0.0 made c.in_err-processors.ensures.refused in
+    search rules

@@ -1,0 +1,7 @@
+pub mod Carrying
+pub mod Closing
+pub mod Lists
+pub mod Reading
+pub mod Sinks
+pub mod Trees
+pub mod Verdicts
