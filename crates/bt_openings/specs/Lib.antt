@@ -1,0 +1,4 @@
+pub mod Objects
+pub mod Opened
+pub mod Openings
+pub mod Plan
