@@ -1,5 +1,5 @@
 #!/usr/bin/env python3
-"""Compares random inputs, delimiters and policies with a plain split of the whole text: intake.py [CASES] [SEED].
+"""Compares random inputs, delimiters and policies, checks among them, with a plain split of the whole text: intake.py [CASES] [SEED].
 
 It wants the program of crates/bt_intake_cases, which `rt run` builds in that folder. Each case is a line of that program's
 input, and its answer must be what is computed here of the finished bytes, whatever pieces they are read in.
@@ -47,13 +47,26 @@ def items_of(sources, delimiter, bound):
     return items, "bound" if sum(len(text) for _, text in sources) >= bound else "end"
 
 
-def batches_of(items, count, size):
+# Checks, and when the last item of a batch passes them.
+CHECKS = {
+    "": None,
+    'content().string() == "a"': lambda batch: batch[-1][1] == "a",
+    "batch_index() == 1": lambda batch: len(batch) == 2,
+    "batch_size() > 2": lambda batch: len(batch) > 2,
+    'meta("path") == "p"': lambda batch: batch[-1][0] == "p",
+    "this.k": lambda batch: False,
+}
+
+
+def batches_of(items, count, size, check):
     batch = []
+    passes = CHECKS[check]
     for item in items:
         batch.append(item)
         has_count = count > 0 and len(batch) >= count
         has_size = size > 0 and sum(len(text) for _, text in batch) >= size
-        if has_count or has_size or (count == 0 and size == 0):
+        has_passed = passes is not None and passes(batch)
+        if has_count or has_size or has_passed or (count == 0 and size == 0 and passes is None):
             yield batch
             batch = []
     if batch:
@@ -71,11 +84,12 @@ def case(chance):
     whole = sum(len(real(text)) for _, text in sources)
     bound = chance.choice([1_000_000, whole, whole + 1, chance.randint(0, whole)])
     count, size = chance.choice([0, 0, 1, 2, 3]), chance.choice([0, 0, 1, 4, 9])
+    check = chance.choice(["", "", *CHECKS])
     piece = chance.choice([1, 2, 3, 7, 4096] if whole < 1000 else [777, 4096])
     written = ",".join(f"{path}:{text}" if path else text for path, text in sources)
     items, last = items_of([(path, real(text)) for path, text in sources], real(delimiter) or "\n", bound)
-    batches = ["".join(f"[{path + ':' if path else ''}{shown(text)}]" for path, text in batch) for batch in batches_of(items, count, size)]
-    line = f"sources={written};delimiter={delimiter};count={count};size={size};piece={piece};bound={bound}"
+    batches = ["".join(f"[{path + ':' if path else ''}{shown(text)}]" for path, text in batch) for batch in batches_of(items, count, size, check)]
+    line = f"sources={written};delimiter={delimiter};count={count};size={size};check={check};piece={piece};bound={bound}"
     return line, " ".join([line, *batches, last])
 
 

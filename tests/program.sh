@@ -40,6 +40,17 @@ long_blobl() { (printf '{}\n'; cat "$work/returned") | "$program" blobl 'root = 
 closed_output() { "$program" run -c "$work/c.json" < "$work/input" >&-; }
 full_output() { "$program" run -c "$work/c.json" < "$work/input" > /dev/full; }
 no_text() { "$program" run -c "$(printf '\377')" < "$work/input"; }
+# so little memory that the program begins and can't read its words: the least with which it begins is looked for
+little_memory() {
+    word=$(head -c 120000 /dev/zero | tr '\0' w)
+    set --
+    for _ in 1 2 3 4 5 6 7 8 9 10 11 12 13 14 15; do set -- "$@" "$word"; done
+    for kilobytes in $(seq 1000 500 64000); do
+        (ulimit -v "$kilobytes"; exec "$program" "$@") 2> "$work/little"
+        status=$?
+        case $status in 2 | 6) cat "$work/little" >&2; return $status ;; esac
+    done
+}
 foreign_name() { "$work/$(printf '\377')" run -c "$work/c.json" < "$work/input"; }
 # a reader that left before the first record
 left_output() { (sleep 1; "$program" run -c "$work/c.json" < "$work/input") > "$work/pipe"; }
@@ -95,6 +106,7 @@ case_of "a full standard output of blobl" 5 "out: write fault" full_blobl
 case_of "a closed standard output of blobl" 5 "out: write fault" closed_blobl
 case_of "a directory as standard input of blobl" 4 "source: read fault" directory_blobl
 case_of "a word that is no text" 2 "usage: benthos run, lint, test, blobl or load" no_text
+case_of "no memory for the words" 6 "no memory" little_memory
 case_of "a program name that is no text" 0 "taken 3 acknowledged 3 refused 0" foreign_name
 case_of "a directory as standard input" 4 "source: read fault" directory_input
 case_of "a configuration with lints" 3 "/output: not exactly one kind" run "$(config "$wrong")"

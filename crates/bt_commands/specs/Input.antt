@@ -13,7 +13,7 @@ line_feed = 10 ∷ []
 
 -- every item is a batch
 abbrev pub single : Policy
-single = record { count = 0; byte_size = 0 }
+single = record { count = 0; byte_size = 0; check = None }
 
 -- the transactions of some sources within a bound: one for each line
 abbrev pub batches : ℕ → List SourceBytes → List (List Item)

@@ -13,7 +13,7 @@ use Rattle.bt_intake.specs.declared.batches.Batches.{Batches}
 use Rattle.bt_intake.specs.declared.policy.Policy.{Policy}
 use Rattle.bt_intake.specs.declared.reader.LineReader.{LineReader}
 use Rattle.bt_intake.specs.Batches.{ends, is_off, source_items}
-use Rattle.bt_intake.specs.Gathering.{CutSoFar, BatchesHold, Gathers, GivesBatch, GivesNone, BatchAnswers, BatchSteps, Ends, Added, AddsLast, Stops, StopsWith, items_of, batches_of, items_given, size_of, rest_or, SaysOf}
+use Rattle.bt_intake.specs.Gathering.{CutSoFar, BatchesHold, Gathers, GivesBatch, GivesNone, BatchAnswers, BatchSteps, Added, AddedOpen, AddsLast, Stops, StopsWith, items_of, batches_of, size_of, rest_or, SaysOf}
 use Rattle.bt_intake.specs.Reader.{ReaderHolds, Goes, GivesLine, AllGiven}
 use Rattle.bt_intake.specs.Sources.{all_tell, told, fault_count}
 use Rattle.bt_intake.specs.Answers.{ReadsLate}
@@ -25,11 +25,15 @@ either true true c e f = refl
 either true false c e f = cc
 either false b c e f = cc
 
+pub either_first : (a b : Bool) → a ≡ true → a || b ≡ true
+either_first true b e = refl
+either_first false b e = cc
+
 -- with no condition on a batch of one item ends
 off_ends : (p : Policy) (batch : List Item) → is_off p ≡ true → 1 ≤ length batch → ends p batch ≡ true
-off_ends p batch off some = either (is_off p) (nat_lt 0 (length batch)) _ off (le-leb 1 (length batch) some)
+off_ends p batch off some = either_first _ _ (either (is_off p) (nat_lt 0 (length batch)) _ off (le-leb 1 (length batch) some))
 
-module _ {S : Type 0} (g : Source.Ghosts S) (b c : Batches S) (holds : BatchesHold g b) (goes : Goes g b.reader c.reader) (policy : c.policy ≡ b.policy) where
+module _ {S : Type 0} (g : Source.Ghosts S) (b c : Batches S) (holds : BatchesHold g b) (alive : b.lost ≡ false) (goes : Goes g b.reader c.reader) (policy : c.policy ≡ b.policy) where
   before : IsTrue (all_tell g c.reader.sources.list) → IsTrue (all_tell g b.reader.sources.list)
   before = tell-kept g b.reader.sources.list c.reader.sources.list goes.kept
 
@@ -65,7 +69,7 @@ module _ {S : Type 0} (g : Source.Ghosts S) (b c : Batches S) (holds : BatchesHo
         let l = goes.late q h in
         let fits : l.m ≤ b.reader.bound = omega (arith, l.rises, reader.within_bound, goes.bound) in
         let ss = told g c.reader.sources.list in
-        let so = subst (λ zs. CutSoFar (ends b.policy) (source_items b.reader.delimiter b.reader.bound zs) b.batch.list b.given b.reader.given) (sym (same_told q)) (holds.so_far (before q)) in
+        let so = subst (λ zs. CutSoFar (ends b.policy) (source_items b.reader.delimiter b.reader.bound zs) b.batch.list b.given b.reader.given) (sym (same_told q)) (holds.so_far alive (before q)) in
         let (later, is) = items-closed b.reader.delimiter holds.reader.some l.m b.reader.bound ss fits in
         record {
           m = l.m;
@@ -82,6 +86,16 @@ module _ {S : Type 0} (g : Source.Ghosts S) (b c : Batches S) (holds : BatchesHo
     found : IsTrue (all_tell g c.reader.sources.list) → slice_get (items_of g b) b.reader.given ≡ Some i
     found q = ap (λ ss. slice_get (source_items b.reader.delimiter b.reader.bound ss) b.reader.given) (sym (same_told q)) ∙ gives.next q
 
+    added_so_far : c.batch.list ≡ b.batch.list ++ i ∷ [] → c.given ≡ b.given → ends b.policy (b.batch.list ++ i ∷ []) ≡ false
+        → IsTrue (all_tell g c.reader.sources.list) → CutSoFar (ends c.policy) (items_of g c) c.batch.list c.given c.reader.given
+    added_so_far is n goes_on q = carried q (b.batch.list ++ i ∷ []) b.given (b.reader.given + 1)
+        (so_far-on (ends b.policy) (items_of g b) b.batch.list b.given b.reader.given (holds.so_far alive (before q)) i (found q) goes_on) is n gives.given
+
+    ended_so_far : c.batch.list ≡ [] → c.given ≡ b.given + 1 → ends b.policy (b.batch.list ++ i ∷ []) ≡ true
+        → IsTrue (all_tell g c.reader.sources.list) → CutSoFar (ends c.policy) (items_of g c) c.batch.list c.given c.reader.given
+    ended_so_far empty n ends_so q = carried q [] (b.given + 1) (b.reader.given + 1)
+        (so_far-ended (ends b.policy) (items_of g b) b.batch.list b.given b.reader.given (holds.so_far alive (before q)) i (found q) ends_so) empty n gives.given
+
     holds_added : length b.batch.list + 1 < 2 ^ 32 → c.batch.list ≡ b.batch.list ++ i ∷ [] → c.size ≡ size_of (b.batch.list ++ i ∷ []) → c.given ≡ b.given → ends b.policy (b.batch.list ++ i ∷ []) ≡ false → BatchesHold g c
     holds_added few is size n goes_on = record {
       reader = reader;
@@ -91,8 +105,8 @@ module _ {S : Type 0} (g : Source.Ghosts S) (b c : Batches S) (holds : BatchesHo
       alone = λ off.
           let ends_so = off_ends b.policy (b.batch.list ++ i ∷ []) (ap is_off (sym policy) ∙ off) (omega (arith, length-append b.batch.list (i ∷ []))) in
           cc;
-      so_far = λ q. carried q (b.batch.list ++ i ∷ []) b.given (b.reader.given + 1)
-          (so_far-on (ends b.policy) (items_of g b) b.batch.list b.given b.reader.given (holds.so_far (before q)) i (found q) goes_on) is n gives.given;
+      listed = λ q. (added_so_far is n goes_on q).in_list;
+      so_far = λ _ q. added_so_far is n goes_on q;
     }
 
     holds_ended : c.batch.list ≡ [] → c.size ≡ 0 → c.given ≡ b.given + 1 → ends b.policy (b.batch.list ++ i ∷ []) ≡ true → BatchesHold g c
@@ -102,8 +116,20 @@ module _ {S : Type 0} (g : Source.Ghosts S) (b c : Batches S) (holds : BatchesHo
       counts = omega (arith, n, ap length empty, gives.given, holds.counts);
       few = omega (arith, ap length empty);
       alone = λ off. (empty, omega (arith, gives.given, n, (holds.alone (ap is_off (sym policy) ∙ off)).1));
-      so_far = λ q. carried q [] (b.given + 1) (b.reader.given + 1)
-          (so_far-ended (ends b.policy) (items_of g b) b.batch.list b.given b.reader.given (holds.so_far (before q)) i (found q) ends_so) empty n gives.given;
+      listed = λ q. (ended_so_far empty n ends_so q).in_list;
+      so_far = λ _ q. ended_so_far empty n ends_so q;
+    }
+
+    -- it is open whether the batch ends
+    holds_open : length b.batch.list + 1 < 2 ^ 32 → c.batch.list ≡ b.batch.list ++ i ∷ [] → c.size ≡ size_of (b.batch.list ++ i ∷ []) → c.given ≡ b.given → c.lost ≡ true → is_off b.policy ≡ false → BatchesHold g c
+    holds_open few is size n lost on = record {
+      reader = reader;
+      size = size ∙ ap size_of (sym is);
+      counts = omega (arith, n, ap length is, length-append b.batch.list (i ∷ []), gives.given, holds.counts);
+      few = omega (arith, few, ap length is, length-append b.batch.list (i ∷ []));
+      alone = λ off. let on_there : is_off c.policy ≡ false = ap is_off policy ∙ on in cc;
+      listed = λ q. omega (arith, n, ap length (same_batches q), holds.listed (before q));
+      so_far = λ still q. cc;
     }
 
     gives_ended : length b.batch.list + 1 < 2 ^ 32 → (items : List Item) → items ≡ b.batch.list ++ i ∷ [] → c.batch.list ≡ [] → c.given ≡ b.given + 1 → ends b.policy (b.batch.list ++ i ∷ []) ≡ true → GivesBatch g b c items
@@ -114,7 +140,7 @@ module _ {S : Type 0} (g : Source.Ghosts S) (b c : Batches S) (holds : BatchesHo
       given = n;
       counted = omega (arith, ap length is, length-append b.batch.list (i ∷ []), ap length empty, gives.given, holds.counts);
       next = λ q. ap (λ bs. slice_get bs b.given) (same_batches q)
-          ∙ so_far-next (ends b.policy) (items_of g b) b.batch.list b.given b.reader.given (holds.so_far (before q)) i (found q) ends_so ∙ ap Some (sym is);
+          ∙ so_far-next (ends b.policy) (items_of g b) b.batch.list b.given b.reader.given (holds.so_far alive (before q)) i (found q) ends_so ∙ ap Some (sym is);
     }
 
   -- no line is left
@@ -124,7 +150,12 @@ module _ {S : Type 0} (g : Source.Ghosts S) (b c : Batches S) (holds : BatchesHo
 
     all_batches : c.given ≡ b.given → b.batch.list ≡ [] → IsTrue (all_tell g c.reader.sources.list) → length (batches_of g c) ≡ c.given
     all_batches n empty q =
-        ap length (same_batches q) ∙ so_far-all (ends b.policy) (items_of g b) b.batch.list b.given b.reader.given (holds.so_far (before q)) (all_taken q) empty ∙ sym n
+        ap length (same_batches q) ∙ so_far-all (ends b.policy) (items_of g b) b.batch.list b.given b.reader.given (holds.so_far alive (before q)) (all_taken q) empty ∙ sym n
+
+    behind_so_far : 1 ≤ length b.batch.list → c.batch.list ≡ [] → c.given ≡ b.given + 1
+        → IsTrue (all_tell g c.reader.sources.list) → CutSoFar (ends c.policy) (items_of g c) c.batch.list c.given c.reader.given
+    behind_so_far some empty n q = carried q [] (b.given + 1) b.reader.given
+        (so_far-behind (ends b.policy) (items_of g b) b.batch.list b.given b.reader.given (holds.so_far alive (before q)) (all_taken q) some) empty n same
 
     holds_behind : 1 ≤ length b.batch.list → c.batch.list ≡ [] → c.size ≡ 0 → c.given ≡ b.given + 1 → BatchesHold g c
     holds_behind some empty zero n = record {
@@ -133,8 +164,8 @@ module _ {S : Type 0} (g : Source.Ghosts S) (b c : Batches S) (holds : BatchesHo
       counts = omega (arith, n, ap length empty, same, holds.counts, some);
       few = omega (arith, ap length empty);
       alone = λ off. absurd (omega (arith, some, ap length (holds.alone (ap is_off (sym policy) ∙ off)).0));
-      so_far = λ q. carried q [] (b.given + 1) b.reader.given
-          (so_far-behind (ends b.policy) (items_of g b) b.batch.list b.given b.reader.given (holds.so_far (before q)) (all_taken q) some) empty n same;
+      listed = λ q. (behind_so_far some empty n q).in_list;
+      so_far = λ _ q. behind_so_far some empty n q;
     }
 
     gives_last : (items : List Item) → 1 ≤ length b.batch.list → items ≡ b.batch.list → c.batch.list ≡ [] → c.given ≡ b.given + 1 → GivesBatch g b c items
@@ -145,16 +176,16 @@ module _ {S : Type 0} (g : Source.Ghosts S) (b c : Batches S) (holds : BatchesHo
       given = n;
       counted = omega (arith, ap length is, ap length empty, same, holds.counts);
       next = λ q. ap (λ bs. slice_get bs b.given) (same_batches q)
-          ∙ so_far-last (ends b.policy) (items_of g b) b.batch.list b.given b.reader.given (holds.so_far (before q)) (all_taken q) some ∙ ap Some (sym is);
+          ∙ so_far-last (ends b.policy) (items_of g b) b.batch.list b.given b.reader.given (holds.so_far alive (before q)) (all_taken q) some ∙ ap Some (sym is);
     }
 
-module _ {S : Type 0} (g : Source.Ghosts S) (b : Batches S) (holds : BatchesHold g b) (t : LineReader S) (reader : ReaderHolds g t) (goes : Goes g b.reader t) where
+module _ {S : Type 0} (g : Source.Ghosts S) (b : Batches S) (holds : BatchesHold g b) (alive : b.lost ≡ false) (t : LineReader S) (reader : ReaderHolds g t) (goes : Goes g b.reader t) where
   -- what the reader did, and the batch at hand as it was
   abbrev still : Batches S
   still = record b { reader = t }
 
   pub gathers-still : Gathers g b still
-  gathers-still = gathers g b still holds goes refl reader
+  gathers-still = gathers g b still holds alive goes refl reader
 
   -- an item was added, which didn't end the batch
   module _ (i : Item) (gives : GivesLine g b.reader t i) (few : length b.batch.list + 1 < 2 ^ 32) (c : Batches S) where
@@ -169,10 +200,10 @@ module _ {S : Type 0} (g : Source.Ghosts S) (b : Batches S) (holds : BatchesHold
       gives_there = subst (λ r. GivesLine g b.reader r i) (sym added.reader) gives
 
       pub added-holds : BatchesHold g c
-      added-holds = holds_added g b c holds there added.policy stands_there i gives_there few added.batch added.size added.given added.ended
+      added-holds = holds_added g b c holds alive there added.policy stands_there i gives_there few added.batch added.size added.given added.ended
 
       pub added-gathers : Gathers g b c
-      added-gathers = gathers g b c holds there added.policy stands_there
+      added-gathers = gathers g b c holds alive there added.policy stands_there
 
       pub added-steps : BatchSteps g None b c
       added-steps = (
@@ -182,6 +213,29 @@ module _ {S : Type 0} (g : Source.Ghosts S) (b : Batches S) (holds : BatchesHold
         },
         gives_there.given,
       )
+
+    -- want of memory left open whether it did
+    module _ (added : AddedOpen i still c) where
+      there_open : Goes g b.reader c.reader
+      there_open = subst (Goes g b.reader) (sym added.reader) goes
+
+      stands_open : ReaderHolds g c.reader
+      stands_open = subst (ReaderHolds g) (sym added.reader) reader
+
+      gives_open : GivesLine g b.reader c.reader i
+      gives_open = subst (λ r. GivesLine g b.reader r i) (sym added.reader) gives
+
+      pub open-holds : BatchesHold g c
+      open-holds = holds_open g b c holds alive there_open added.policy stands_open i gives_open few added.batch added.size added.given added.lost added.on
+
+      pub open-gathers : Gathers g b c
+      open-gathers = gathers g b c holds alive there_open added.policy stands_open
+
+      pub open-steps : GivesNone b c
+      open-steps = record {
+        given = added.given;
+        counted = omega (arith, ap length added.batch, length-append b.batch.list (i ∷ []), gives_open.given, holds.counts);
+      }
 
     -- it ended the batch
     module _ (items : List Item) (added : AddsLast i items still c) where
@@ -195,16 +249,19 @@ module _ {S : Type 0} (g : Source.Ghosts S) (b : Batches S) (holds : BatchesHold
       gives_line = subst (λ r. GivesLine g b.reader r i) (sym added.reader) gives
 
       pub ended-holds : BatchesHold g c
-      ended-holds = holds_ended g b c holds there_last added.policy stands_last i gives_line added.empty added.none added.given added.ended
+      ended-holds = holds_ended g b c holds alive there_last added.policy stands_last i gives_line added.empty added.none added.given added.ended
 
       pub ended-gathers : Gathers g b c
-      ended-gathers = gathers g b c holds there_last added.policy stands_last
+      ended-gathers = gathers g b c holds alive there_last added.policy stands_last
 
       pub ended-gives : GivesBatch g b c items
-      ended-gives = gives_ended g b c holds there_last added.policy stands_last i gives_line few items added.gives added.empty added.given added.ended
+      ended-gives = gives_ended g b c holds alive there_last added.policy stands_last i gives_line few items added.gives added.empty added.given added.ended
 
   -- no line came
   module _ (same : t.given ≡ b.reader.given) where
+    still_so_far : IsTrue (all_tell g t.sources.list) → CutSoFar (ends b.policy) (items_of g still) b.batch.list b.given t.given
+    still_so_far q = carried g b still holds alive goes refl q b.batch.list b.given b.reader.given (holds.so_far alive (before g b still holds alive goes refl q)) refl refl same
+
     pub holds-still : BatchesHold g still
     holds-still = record {
       reader = reader;
@@ -212,7 +269,8 @@ module _ {S : Type 0} (g : Source.Ghosts S) (b : Batches S) (holds : BatchesHold
       counts = omega (arith, holds.counts, same);
       few = holds.few;
       alone = λ off. ((holds.alone off).0, same ∙ (holds.alone off).1);
-      so_far = λ q. carried g b still holds goes refl q b.batch.list b.given b.reader.given (holds.so_far (before g b still holds goes refl q)) refl refl same;
+      listed = λ q. (still_so_far q).in_list;
+      so_far = λ _ q. still_so_far q;
     }
 
     pub gives-none : GivesNone b still
@@ -221,7 +279,7 @@ module _ {S : Type 0} (g : Source.Ghosts S) (b : Batches S) (holds : BatchesHold
     -- a read failed
     pub says-failed : (IsTrue (all_tell g t.sources.list) → length (source_items t.delimiter t.taken (told g t.sources.list)) ≤ t.given) → SaysOf g next.Failed still
     says-failed closed q =
-        let so = holds-still.so_far q in
+        let so = holds-still.so_far alive q in
         let ss = told g t.sources.list in
         let (later, is) = items-closed t.delimiter reader.some t.taken t.bound ss reader.within_bound in
         so_far-front (ends b.policy) (source_items t.delimiter t.bound ss) b.batch.list b.given t.given so (source_items t.delimiter t.taken ss) later is (closed q)
@@ -231,7 +289,7 @@ module _ {S : Type 0} (g : Source.Ghosts S) (b : Batches S) (holds : BatchesHold
       stopped : (GivesNone b still → (IsTrue (all_tell g t.sources.list) → length (batches_of g still) ≡ b.given) → BatchAnswers g answer b still) → (rest : Option (Contents Item)) → result ≡ rest_or rest answer → Stops rest still c
           → BatchesHold g c × Gathers g b c × BatchAnswers g result b c
       stopped says None is h =
-          let none = all_batches g b still holds goes refl reader same all refl h.0 in
+          let none = all_batches g b still holds alive goes refl reader same all refl h.0 in
           subst (λ x. BatchesHold g x × Gathers g b x × BatchAnswers g result b x) (sym h.1)
           (holds-still, gathers-still, subst (λ r. BatchAnswers g r b still) (sym is) (says gives-none none))
       stopped says (Some items) is h =
@@ -240,9 +298,9 @@ module _ {S : Type 0} (g : Source.Ghosts S) (b : Batches S) (holds : BatchesHold
           let stands = subst (ReaderHolds g) (sym e.reader) reader in
           let done : c.reader.given ≡ b.reader.given = ap (λ r. r.given) e.reader ∙ same in
           let given = subst (λ r. AllGiven g r) (sym e.reader) all in (
-            holds_behind g b c holds there e.policy stands done given h.0 e.empty e.none e.given,
-            gathers g b c holds there e.policy stands,
-            subst (λ r. BatchAnswers g r b c) (sym is) (gives_last g b c holds there e.policy stands done given items.list h.0 e.gives e.empty e.given),
+            holds_behind g b c holds alive there e.policy stands done given h.0 e.empty e.none e.given,
+            gathers g b c holds alive there e.policy stands,
+            subst (λ r. BatchAnswers g r b c) (sym is) (gives_last g b c holds alive there e.policy stands done given items.list h.0 e.gives e.empty e.given),
           )
 
       module _ (stops : StopsWith answer result still c) where

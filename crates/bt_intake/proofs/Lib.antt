@@ -1,4 +1,5 @@
 pub mod Batching
+pub mod Crosses
 pub mod Places
 pub mod ReadBytes
 pub mod Rests

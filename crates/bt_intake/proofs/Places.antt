@@ -1,12 +1,12 @@
 -- Where a search finds a delimiter.
-use Rattle.std.proofs.Common.{◌≡◌, ℕ, zero, suc, ◌+◌, ◌-◌, ◌<◌, ◌≤◌, Bool, true, false, ◌&&◌, eqb, List, [], ◌∷◌, length, take, drop, Option, None, Some, slice_index, refl, sym, ap, ◌∙◌, arith, inl, inr}
+use Rattle.std.proofs.Common.{◌≡◌, ℕ, zero, suc, ◌+◌, ◌<◌, ◌≤◌, true, false, ◌&&◌, eqb, List, [], ◌∷◌, length, take, drop, Option, None, Some, slice_index, refl, sym, ap, ◌∙◌, arith, inl, inr}
 use Rattle.std.specs.Prelude.{MatchOption}
 use Rattle.std.specs.List.{starts_with}
 use Rattle.std.proofs.lemmas.Bool.{cases_Bool, cases_lt, and_parts, and_from, eq-eqb, eqb-true}
 use Rattle.std.proofs.lemmas.List.{length-drop}
-use Rattle.memchr.specs.Find.{IsFirst, IsFirstByte, FindsNeedle, OccursAt, Passes, is_byte}
+use Rattle.memchr.specs.Find.{IsFirstByte, FindsNeedle, OccursAt, is_byte}
 use Rattle.memchr.proofs.lemmas.MatchLemmas.{OccursAt-part}
-use Rattle.bt_lines.specs.Pieces.{begins, NoneBefore, NoneIn, FirstAt}
+use Rattle.bt_lines.specs.Pieces.{begins, NoneIn, FirstAt}
 use Rattle.bt_lines.proofs.Pieces.{begins-length, begins-short}
 
 begins-take : (d s : List ℕ) → take (length d) s ≡ d → begins d s ≡ true

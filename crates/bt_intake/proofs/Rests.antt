@@ -6,7 +6,6 @@ use Rattle.std.proofs.lemmas.List.Elements.{All-head, All-tail}
 use Rattle.bt_ports.specs.declared.parts.Named.{Named}
 use Rattle.bt_ports.specs.declared.outside.Source as Source
 use Rattle.bt_lines.specs.Lines.{SourceBytes}
-use Rattle.bt_lines.specs.Pieces.{FirstAt}
 use Rattle.bt_lines.specs.Follows.{Follows, source}
 use Rattle.bt_intake.specs.Sources.{told, taken_count}
 use Rattle.bt_intake.specs.Reader.{rest}

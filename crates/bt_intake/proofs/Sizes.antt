@@ -1,5 +1,5 @@
 -- How many bytes batches have.
-use Rattle.std.proofs.Common.{◌≡◌, ℕ, ◌+◌, ◌-◌, ◌^◌, ◌<◌, ◌≤◌, min, Bool, true, List, [], ◌∷◌, ◌++◌, length, refl, sym, ap, ◌∙◌, arith}
+use Rattle.std.proofs.Common.{◌≡◌, ℕ, ◌+◌, ◌-◌, ◌^◌, min, List, [], ◌∷◌, ◌++◌, length, arith}
 use Rattle.bt_ports.specs.declared.parts.Item.{Item}
 use Rattle.bt_intake.specs.Batches.{bytes_in}
 use Rattle.bt_intake.specs.Gathering.{size_of}

@@ -1,22 +1,22 @@
 -- What stands of the reader after each of its steps.
-use Rattle.std.proofs.Common.{◌≡◌, ◌⊎◌, ℕ, zero, suc, ◌+◌, ◌-◌, ◌<◌, ◌≤◌, IsTrue, List, [], ◌∷◌, ◌++◌, length, take, drop, Some, slice_get, slice_set, refl, sym, ap, ◌∙◌, subst, arith, append_assoc, append-nil, length-append, inl, inr}
+use Rattle.std.proofs.Common.{◌≡◌, ◌⊎◌, ℕ, zero, suc, ◌+◌, ◌-◌, ◌<◌, ◌≤◌, IsTrue, List, [], ◌∷◌, length, take, drop, Some, slice_get, refl, sym, ap, ◌∙◌, subst, arith, inl, inr}
 use Rattle.std.proofs.lemmas.Bool.{cases_lt}
-use Rattle.std.proofs.lemmas.List.{take-append-drop, length-take, length-drop, take-take, drop-drop, drop_all}
+use Rattle.std.proofs.lemmas.List.{length-drop, take-take, drop-drop, drop_all}
 use Rattle.std.proofs.lemmas.Option.{same_Some}
 use Rattle.bt_ports.specs.declared.parts.Item.{Item}
 use Rattle.bt_ports.specs.declared.parts.Named.{Named}
 use Rattle.bt_ports.specs.declared.outside.Source as Source
 use Rattle.bt_lines.specs.Pieces.{NoneBefore, NoneIn, FirstAt}
-use Rattle.bt_lines.specs.Lines.{SourceBytes, item}
+use Rattle.bt_lines.specs.Lines.{item}
 use Rattle.bt_lines.specs.Follows.{Follows, source}
 use Rattle.bt_lines.specs.declared.TheConstants.{LONGEST}
 use Rattle.bt_lines.proofs.Pieces.{front-length, first-front}
 use Rattle.bt_lines.proofs.Lines.{follows-line, next-line, follows-skip, follows-last, next-last}
 use Rattle.bt_intake.specs.declared.reader.LineReader.{LineReader}
 use Rattle.bt_intake.specs.Batches.{source_items}
-use Rattle.bt_intake.specs.Sources.{all_tell, told, taken_count, Ended}
+use Rattle.bt_intake.specs.Sources.{all_tell, told, Ended}
 use Rattle.bt_intake.specs.Reader.{uncut, rest, ReaderHolds, MakesItem, GivesLine}
-use Rattle.bt_intake.proofs.Rests.{get-inside, left, follows-at, follows-back, follows-split, follows-ended}
+use Rattle.bt_intake.proofs.Rests.{get-inside, left, follows-back, follows-split, follows-ended}
 
 -- a list of which n elements were dropped and one is left has more than n
 pub more_than_dropped : {A : Type 0} (n : ℕ) (xs : List A) (x : A) (later : List A) → drop n xs ≡ x ∷ later → n + 1 ≤ length xs

@@ -1,6 +1,6 @@
 -- What the answers tell, as every intake does.
 use Rattle.std.proofs.Common.{◌≡◌, IsTrue, length, slice_get, sym, ap, ◌∙◌}
-use Rattle.bt_ports.specs.Intake.{InputStop, NextGives, NextStops}
+use Rattle.bt_ports.specs.Intake.{NextGives, NextStops}
 use Rattle.bt_ports.specs.declared.parts.Next.{Next}
 use Rattle.bt_ports.specs.declared.parts.Next.TheVariants as next
 use Rattle.bt_ports.specs.declared.outside.Source as Source

@@ -1,5 +1,5 @@
 -- What the answers say, and how far steps go.
-use Rattle.std.proofs.Common.{◌≡◌, ℕ, ◌+◌, ◌-◌, ◌<◌, ◌≤◌, IsTrue, true, false, ◌&&◌, eqb, List, [], ◌∷◌, ◌++◌, length, take, drop, Option, Some, None, Result, Ok, Err, slice_get, refl, sym, ap, ◌∙◌, subst, arith, append-nil, length-append, inl, inr}
+use Rattle.std.proofs.Common.{◌≡◌, ℕ, ◌+◌, ◌-◌, ◌<◌, ◌≤◌, IsTrue, true, false, eqb, List, [], ◌∷◌, ◌++◌, length, take, drop, Option, Some, None, Result, Ok, Err, slice_get, refl, sym, ap, ◌∙◌, subst, arith, length-append, inl, inr}
 use Rattle.std.proofs.lemmas.Bool.{cases_lt, cases_Bool, and_parts, and_from, eq-eqb, eqb-true, lt-leb, le-leb}
 use Rattle.std.proofs.lemmas.List.{drop_all, length-drop, take_all}
 use Rattle.std.proofs.Math.Seq.{drop-append-le, take-append-add}
@@ -7,10 +7,9 @@ use Rattle.std.proofs.lemmas.Option.{same_Some}
 use Rattle.bt_ports.specs.declared.outside.Source as Source
 use Rattle.bt_ports.specs.declared.NoMemory.{NoMemory}
 use Rattle.bt_ports.specs.declared.parts.Item.{Item}
-use Rattle.bt_ports.specs.Intake.{input_end, bound_met, line_too_long}
 use Rattle.bt_lines.specs.Pieces.{begins, NoneBefore, NoneIn, FirstAt}
-use Rattle.bt_lines.specs.Lines.{SourceBytes, Line, byte_count, lines, items, first_long, stop, reaches}
-use Rattle.bt_lines.specs.Follows.{Follows, source}
+use Rattle.bt_lines.specs.Lines.{Line, byte_count, lines, first_long, reaches}
+use Rattle.bt_lines.specs.Follows.{Follows}
 use Rattle.bt_lines.specs.declared.TheConstants.{LONGEST}
 use Rattle.bt_lines.proofs.Pieces.{begins-front, first-front, front-length}
 use Rattle.bt_lines.proofs.Lines.{none_closed, open_comes, open_long, none_long, long-line, long-bytes, none_left, none_long_left, line, cut_piece-some, first-cut_long}
@@ -20,7 +19,7 @@ use Rattle.bt_intake.specs.declared.reader.NextLine.TheVariants as next
 use Rattle.bt_intake.specs.Answers.{ShowsNoLong}
 use Rattle.bt_intake.specs.Batches.{source_items}
 use Rattle.bt_intake.specs.Ending.{MayEnd, IsTooLong}
-use Rattle.bt_intake.specs.Reader.{uncut, rest, ReaderHolds, LinesLate, Goes, AllGiven, SaysOf, Answers, Gives, GivesLine, Steps, StepFaults, work, line_of}
+use Rattle.bt_intake.specs.Reader.{uncut, rest, ReaderHolds, LinesLate, Goes, SaysOf, Answers, Gives, Steps, StepFaults, work, line_of}
 use Rattle.bt_intake.specs.Sources.{all_tell, told, fault_count, SourcesKept, Ended}
 use Rattle.bt_intake.proofs.SourceLists.{sources_kept-same, sources_kept-then, tell-kept, told-kept, rose-kept, rose-count}
 use Rattle.bt_intake.proofs.Steps.{at_hand, get-dropped}

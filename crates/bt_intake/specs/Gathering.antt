@@ -1,5 +1,6 @@
 -- What stands of the batches of an intake, and what their steps do. Only proofs use it.
-use Rattle.std.specs.Prelude.{◌≡◌, ◌⊎◌, ℕ, ◌+◌, ◌-◌, ◌^◌, ◌<◌, ◌≤◌, min, IsTrue, Bool, true, false, List, [], ◌∷◌, ◌++◌, length, take, drop, Option, Some, None, slice_get}
+use Rattle.std.specs.Prelude.{◌≡◌, ◌⊎◌, ℕ, ◌+◌, ◌-◌, ◌^◌, ◌<◌, ◌≤◌, min, IsTrue, Bool, true, false, List, [], ◌∷◌, ◌++◌, length, take, drop, Option, Some, None, Result, Ok, Err, slice_get}
+use Rattle.bt_ports.specs.declared.NoMemory.{NoMemory}
 use Rattle.bt_ports.specs.Contents.{Contents}
 use Rattle.bt_ports.specs.Intake.{NextFaults}
 use Rattle.bt_ports.specs.declared.parts.Item.{Item}
@@ -47,7 +48,10 @@ pub record BatchesHold {S : Type 0} (g : Source.Ghosts S) (b : Batches S) : Type
   pub few : length b.batch.list < 2 ^ 32
   -- where every item is a batch, none is at hand, and as many batches as items were given
   pub alone : is_off b.policy ≡ true → (b.batch.list ≡ []) × (b.reader.given ≡ b.given)
-  pub so_far : IsTrue (all_tell g b.reader.sources.list) → CutSoFar (ends b.policy) (items_of g b) b.batch.list b.given b.reader.given
+  -- no more batches were given than there are
+  pub listed : IsTrue (all_tell g b.reader.sources.list) → b.given ≤ length (batches_of g b)
+  -- unless it is open whether the batch at hand ends with its last item
+  pub so_far : b.lost ≡ false → IsTrue (all_tell g b.reader.sources.list) → CutSoFar (ends b.policy) (items_of g b) b.batch.list b.given b.reader.given
 
 -- how far a call took them
 pub record Gathers {S : Type 0} (g : Source.Ghosts S) (b c : Batches S) : Type 0 where
@@ -91,6 +95,19 @@ abbrev pub BatchSteps : {S : Type 0} → Source.Ghosts S → Option Next → Bat
 BatchSteps g None b c = GivesNone b c × (c.reader.given ≡ b.reader.given + 1)
 BatchSteps g (Some answer) b c = BatchAnswers g answer b c
 
+-- only want of memory leaves open whether the batch at hand ends
+abbrev pub AliveAfter : {S : Type 0} → Next → Batches S → Type 0
+AliveAfter (next.Batch items) b = b.lost ≡ false
+AliveAfter next.End b = b.lost ≡ false
+AliveAfter next.Failed b = b.lost ≡ false
+AliveAfter (next.LongLine n) b = b.lost ≡ false
+AliveAfter next.Bound b = b.lost ≡ false
+AliveAfter next.NoMemory b = Unit {0}
+
+abbrev pub Alive : {S : Type 0} → Option Next → Batches S → Type 0
+Alive None b = b.lost ≡ false
+Alive (Some answer) b = AliveAfter answer b
+
 -- one step's faults: those of its answer, and none where it gave none
 abbrev pub BatchFaults : Option Next → ℕ → ℕ → Type 0
 BatchFaults None before after = after ≡ before
@@ -104,6 +121,7 @@ pub record Ends {S : Type 0} (b c : Batches S) (items : List Item) : Type 0 wher
   pub empty : c.batch.list ≡ []
   pub none : c.size ≡ 0
   pub given : c.given ≡ b.given + 1
+  pub lost : c.lost ≡ b.lost
 
 -- an item was added to the batch at hand, which hasn't ended
 pub record Added {S : Type 0} (i : Item) (b c : Batches S) : Type 0 where
@@ -112,6 +130,7 @@ pub record Added {S : Type 0} (i : Item) (b c : Batches S) : Type 0 where
   pub batch : c.batch.list ≡ b.batch.list ++ i ∷ []
   pub size : c.size ≡ size_of (b.batch.list ++ i ∷ [])
   pub given : c.given ≡ b.given
+  pub lost : c.lost ≡ b.lost
   pub ended : ends b.policy (b.batch.list ++ i ∷ []) ≡ false
 
 -- an item was added to the batch at hand, which has ended and was given
@@ -122,12 +141,24 @@ pub record AddsLast {S : Type 0} (i : Item) (items : List Item) (b c : Batches S
   pub empty : c.batch.list ≡ []
   pub none : c.size ≡ 0
   pub given : c.given ≡ b.given + 1
+  pub lost : c.lost ≡ b.lost
   pub ended : ends b.policy (b.batch.list ++ i ∷ []) ≡ true
 
+-- an item was added to the batch at hand, and want of memory left open whether it ends
+pub record AddedOpen {S : Type 0} (i : Item) (b c : Batches S) : Type 0 where
+  pub reader : c.reader ≡ b.reader
+  pub policy : c.policy ≡ b.policy
+  pub batch : c.batch.list ≡ b.batch.list ++ i ∷ []
+  pub size : c.size ≡ size_of (b.batch.list ++ i ∷ [])
+  pub given : c.given ≡ b.given
+  pub lost : c.lost ≡ true
+  pub on : is_off b.policy ≡ false
+
 -- what became of an item
-abbrev pub Adds : {S : Type 0} → Option (Contents Item) → Item → Batches S → Batches S → Type 0
-Adds None i b c = Added i b c
-Adds (Some items) i b c = AddsLast i items.list b c
+abbrev pub Adds : {S : Type 0} → Result (Option (Contents Item)) NoMemory → Item → Batches S → Batches S → Type 0
+Adds (Ok None) i b c = Added i b c
+Adds (Ok (Some items)) i b c = AddsLast i items.list b c
+Adds (Err e) i b c = AddedOpen i b c
 
 -- the rest was given, or the answer itself where there is none
 abbrev pub Stops : {S : Type 0} → Option (Contents Item) → Batches S → Batches S → Type 0

@@ -1,5 +1,5 @@
 -- What contracts see of an intake of lines, and what holds inside it.
-use Rattle.std.specs.Prelude.{Option}
+use Rattle.std.specs.Prelude.{◌≡◌, Option, None, false}
 use Rattle.bt_ports.specs.declared.parts.Next.{Next}
 use Rattle.bt_ports.specs.declared.outside.Source as Source
 use Rattle.bt_intake.specs.declared.batches.Batches.{Batches}
@@ -22,4 +22,5 @@ view_of b stopped = record {
 
 pub record Holds {S : Type 0} (g : Source.Ghosts S) (b : Batches S) (stopped : Option Next) : Type 0 where
   pub stands : BatchesHold g b
+  pub alive : stopped ≡ None → b.lost ≡ false
   pub says : StopSays stopped b.reader.delimiter b.policy b.reader.bound b.reader.taken b.given (all_tell g b.reader.sources.list) (told g b.reader.sources.list)

@@ -1,6 +1,5 @@
 -- What stands of the reader of an intake, and what its steps do. Only proofs use it.
-use Rattle.std.specs.Prelude.{◌≡◌, ◌⊎◌, ℕ, ◌+◌, ◌-◌, ◌^◌, ◌<◌, ◌≤◌, List, [], ◌∷◌, ◌++◌, length, take, drop, IsTrue, Option, Some, None, Result, Ok, Err, slice_get}
-use Rattle.bt_ports.specs.Contents.{Contents}
+use Rattle.std.specs.Prelude.{◌≡◌, ◌⊎◌, ℕ, ◌+◌, ◌-◌, ◌^◌, ◌<◌, ◌≤◌, List, [], ◌∷◌, ◌++◌, length, drop, IsTrue, Option, Some, None, Result, Ok, Err, slice_get}
 use Rattle.bt_ports.specs.Faults.{Rose}
 use Rattle.bt_ports.specs.declared.NoMemory.{NoMemory}
 use Rattle.bt_ports.specs.declared.parts.Item.{Item}
@@ -9,10 +8,9 @@ use Rattle.bt_ports.specs.declared.parts.Read.{Read}
 use Rattle.bt_ports.specs.declared.parts.Read.TheVariants as read
 use Rattle.bt_ports.specs.declared.outside.Source as Source
 use Rattle.bt_ports.specs.Intake.{input_end, bound_met, line_too_long}
-use Rattle.bt_lines.specs.Pieces.{NoneBefore, NoneIn}
-use Rattle.bt_lines.specs.Lines.{SourceBytes, item, stop, first_long, lines}
+use Rattle.bt_lines.specs.Pieces.{NoneBefore}
+use Rattle.bt_lines.specs.Lines.{SourceBytes, item, stop}
 use Rattle.bt_lines.specs.Follows.{Follows, source}
-use Rattle.bt_lines.specs.declared.TheConstants.{LONGEST}
 use Rattle.bt_intake.specs.declared.reader.LineReader.{LineReader}
 use Rattle.bt_intake.specs.declared.reader.NextLine.{NextLine}
 use Rattle.bt_intake.specs.declared.reader.NextLine.TheVariants as next

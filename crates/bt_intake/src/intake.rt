@@ -30,8 +30,12 @@ pub struct LineIntake<S: Source> {
 
 impl<S: Source> Model for LineIntake<S> {
     ghost use Rattle.bt_intake.specs.View.{LineView};
+    ghost use Rattle.bt_ready.specs.contracts.ready.Ready.{the_row};
+    ghost use Rattle.std.specs.Coded.{codes};
 
     ghost Value = { LineView S };
+
+    ghost coded = { Prim.hlevel (codes, the_row.coded) };
 
     ghost use Rattle.bt_intake.specs.Inside.{view_of, Holds};
 

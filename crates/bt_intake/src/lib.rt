@@ -5,6 +5,7 @@
 #![tactic(auto)]
 
 mod batches;
+pub mod crossing;
 pub mod intake;
 mod line;
 pub mod policy;

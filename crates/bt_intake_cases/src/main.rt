@@ -3,18 +3,20 @@
 //! A case is a line of the standard input: named fields with a semicolon between. `sources` are the sources' bytes with a
 //! comma between, each behind its path and a colon where it has one; in them a bar stands for a line feed, a caret for
 //! a carriage return and a tilde for 65,536 bytes `x`. `delimiter` is written alike, and a line feed where it isn't there.
-//! `count` and `size` are the policy's. `piece` is how many bytes a read gives at most, `fail` the number, counted from 1, of
+//! `count`, `size` and `check`, a query, are the policy's. `piece` is how many bytes a read gives at most, `fail` the number, counted from 1, of
 //! each source's read that fails, and `bound` the bytes that are taken at most; `fill` bytes more stand at each source's
 //! front. What the intake gives is printed behind the line, a blank before each batch: each item behind its path, in
 //! brackets, one of more than 40 bytes by its length, and the answer other than a batch. With `sizes` the lengths of the
 //! buffers that were read into stand behind it.
 #![tactic(auto)]
 
-ghost use Rattle.std.specs.Prelude.{◌≡◌, ◌≤◌, ◌^◌, length, IfOk, true};
+ghost use Rattle.std.specs.Prelude.{◌≡◌, ◌≤◌, ◌^◌, length, IfOk, None, true};
 ghost use Rattle.std.specs.List.{All};
 
 use bt_intake::intake::LineIntake;
 use bt_intake::policy::Policy;
+use bt_lexer::lex;
+use bt_literals::ready;
 use bt_ports::NoMemory;
 use bt_ports::blob::Blob;
 use bt_ports::memory::source::MemSource;
@@ -22,6 +24,8 @@ use bt_ports::outside::{Intake, Source};
 use bt_ports::parts::{Items, Named, Next, Read, Sources};
 use bt_ports::sequence::Sequence;
 use bt_ports::text::Text;
+use bt_ready::Ready;
+use bt_syntax::parse_check;
 use std::alloc::Global;
 use std::io;
 
@@ -168,25 +172,37 @@ fn push_items(text: &mut String, items: &Items) -> Result<(), NoMemory> {
     Ok(())
 }
 
-// What the intake of the case gives.
-fn given(alloc: Global, line: &str) -> Result<String, NoMemory> {
+// The check of the case, where it has one.
+fn check(alloc: Global, line: &str) -> Option<Ready> {
+    let text = field(line, "check");
+    let tokens = lex(alloc, text).ok()?;
+    let mapping = parse_check(alloc, text, &tokens).ok()?;
+    ready(alloc, mapping).ok()
+}
+
+// The intake of the case.
+fn intake(alloc: Global, line: &str) -> Result<LineIntake<Measured>, NoMemory>
+    ensures { IfOk result (λ i. i.stopped ≡ None) }
+{
     let bound = number(line, "bound").min(1_000_000);
     let policy = Policy {
         count: number(line, "count").min(1000) as u32,
         byte_size: number(line, "size"),
+        check: check(alloc, line),
     };
-    let mut intake = LineIntake::make(
-        alloc,
-        sources(alloc, line)?,
-        delimiter(alloc, line)?,
-        policy,
-        bound,
-    )?;
-    let mut text = String::new(alloc);
+    let delimiter = delimiter(alloc, line)?;
+    let sources = sources(alloc, line)?;
+    Ok(LineIntake::make(alloc, sources, delimiter, policy, bound)?)
+}
+
+// Puts what an intake gives.
+fn push_answers(text: &mut String, intake: &mut LineIntake<Measured>) -> Result<(), NoMemory>
+    requires { intake.old.stopped ≡ None }
+{
     'answers: for _ in 0..1000 {
         let last = match intake.next() {
             Next::Batch(items) => {
-                push_items(&mut text, &items)?;
+                push_items(text, &items)?;
                 continue;
             }
             Next::End => " end",
@@ -201,6 +217,14 @@ fn given(alloc: Global, line: &str) -> Result<String, NoMemory> {
         text.push_str(last)?;
         break;
     }
+    Ok(())
+}
+
+// What the intake of the case gives.
+fn given(alloc: Global, line: &str) -> Result<String, NoMemory> {
+    let mut intake = intake(alloc, line)?;
+    let mut text = String::new(alloc);
+    push_answers(&mut text, &mut intake)?;
     if !field(line, "sizes").is_empty() {
         push_sizes(&mut text, intake.into_sources().as_slice())?;
     }

@@ -7,6 +7,7 @@ use Rattle.bt_intake.proofs.batches.Batches.next.Goals as goal
 pub steps-init : goal.steps-init
 steps-init g c = record {
   holds = c.requires.holds;
+  alive = c.requires.alive;
   gathers = gathers-same g.S.Readable.shown c.args.self.now;
   none = none-same g.S.Readable.shown c.args.self.now;
   faults = refl;
@@ -18,6 +19,7 @@ steps-preserved g c =
     let e = c.in_default.ensures in
     record {
       holds = e.holds;
+      alive = e.alive;
       gathers = gathers-then g.S.Readable.shown c.args.self.now c.steps.self c.step.new.self i.none i.gathers e.gathers;
       none = none-then g.S.Readable.shown c.args.self.now c.steps.self c.step.new.self i.none e.steps.0;
       faults = e.faults ∙ i.faults;

@@ -1,4 +1,4 @@
-use Rattle.std.proofs.Common.{◌≡◌, ◌-◌, ◌^◌}
+use Rattle.std.proofs.Common.{◌≡◌, ◌-◌, ◌^◌, false}
 use Rattle.bt_intake.specs.Gathering.{BatchesHold, Gathers, GivesNone}
 use Rattle.bt_intake.specs.Sources.{fault_count}
 use Rattle.bt_intake.proofs.batches.Batches.next.Given as goal
@@ -6,6 +6,7 @@ use Rattle.bt_intake.proofs.batches.Batches.next.Given as goal
 abbrev pub invariant-steps : goal.invariant-steps
 invariant-steps g l = record {
   holds : BatchesHold g.S.Readable.shown l.self;
+  alive : l.self.lost ≡ false;
   gathers : Gathers g.S.Readable.shown l.fn.self l.self;
   none : GivesNone l.fn.self l.self;
   faults : fault_count g.S.Readable.shown l.self.reader.sources.list ≡ fault_count g.S.Readable.shown l.fn.self.reader.sources.list;

@@ -1,4 +1,4 @@
-use Rattle.std.proofs.Common.{◌≡◌, ◌<◌, ◌≤◌, ◌-◌, length, refl, arith}
+use Rattle.std.proofs.Common.{◌<◌, ◌≤◌, length, refl, arith}
 use Rattle.bt_lines.specs.declared.TheConstants.{LONGEST}
 use Rattle.bt_intake.specs.Reader.{uncut}
 use Rattle.bt_intake.proofs.Steps.{length-uncut}

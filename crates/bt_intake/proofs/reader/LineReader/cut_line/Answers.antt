@@ -1,4 +1,4 @@
-use Rattle.std.proofs.Common.{◌≡◌, refl}
+use Rattle.std.proofs.Common.{refl}
 use Rattle.bt_intake.proofs.Turns.{says-long_line}
 use Rattle.bt_intake.proofs.reader.LineReader.cut_line.Goals as goal
 

@@ -1,4 +1,4 @@
-use Rattle.std.proofs.Common.{◌≡◌, ◌+◌, ◌-◌, length, take, drop, sym, ap, subst, ◌∙◌, arith, inl, inr, List, ℕ}
+use Rattle.std.proofs.Common.{drop, sym}
 use Rattle.bt_lines.specs.Pieces.{NoneIn, FirstAt}
 use Rattle.bt_lines.proofs.Pieces.{first-behind, none-behind}
 use Rattle.bt_intake.specs.Reader.{uncut}

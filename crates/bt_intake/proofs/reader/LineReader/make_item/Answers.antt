@@ -1,6 +1,5 @@
-use Rattle.std.proofs.Common.{◌≡◌, ◌+◌, ◌-◌, length, take, drop, sym, ap, subst, ◌∙◌, List, ℕ, Option, None}
+use Rattle.std.proofs.Common.{◌≡◌, ◌+◌, ◌-◌, take, drop, ap, subst, ◌∙◌, List, ℕ, Option, None}
 use Rattle.std.specs.Prelude.{IfSome}
-use Rattle.bt_ports.specs.declared.parts.Item.{Item}
 use Rattle.bt_lines.specs.Lines.{item}
 use Rattle.bt_intake.specs.Reader.{uncut}
 use Rattle.bt_intake.proofs.Rests.{get-inside}

@@ -1,4 +1,4 @@
-use Rattle.std.proofs.Common.{◌≡◌, ℕ, ◌+◌, ◌≤◌, List, length, take, drop, refl, sym, ap, ◌∙◌, subst, arith}
+use Rattle.std.proofs.Common.{◌≡◌, ◌+◌, ◌≤◌, length, take, drop, refl, sym, ap, ◌∙◌, subst, arith}
 use Rattle.bt_ports.specs.declared.parts.Read.TheVariants as read
 use Rattle.bt_intake.specs.Sources.{OneRose, fault_count}
 use Rattle.bt_intake.proofs.ReadBytes.{front_kept, read_part, read-kept, read_tells, stands-read, stands-quiet, takes-next, read-ended}

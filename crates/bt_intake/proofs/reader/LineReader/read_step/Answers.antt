@@ -1,4 +1,4 @@
-use Rattle.std.proofs.Common.{◌≡◌, ◌≤◌, length, refl, sym, ap, ◌∙◌, arith}
+use Rattle.std.proofs.Common.{◌≤◌, ap, arith}
 use Rattle.bt_intake.specs.Reader.{Goes, work}
 use Rattle.bt_intake.specs.Sources.{fault_count}
 use Rattle.bt_intake.proofs.SourceLists.{kept-length}

@@ -1,4 +1,4 @@
-use Rattle.std.proofs.Common.{Some, refl, ◌∙◌, arith}
+use Rattle.std.proofs.Common.{Some, refl, arith}
 use Rattle.bt_intake.proofs.Turns.{goes-still, says-end, says-long_ahead, faults-still}
 use Rattle.bt_intake.proofs.reader.LineReader.step_on.Goals as goal
 
