@@ -1,0 +1,5 @@
+pub mod Dropping
+pub mod Ending
+pub mod Finds
+pub mod Numbering
+pub mod Repeating
