@@ -16,7 +16,7 @@ returns-in-Ok-make g c =
     let start : c.in-Ok-make.desk.floor.outside ≡ beginning plan c.args.parts = begins ∙ ap (λ x. beginning x c.args.parts) c.in-Ok.ensures.cases in
     let over : o.plan ≡ plan = c.carry.ensures.run.plan ∙ ap (λ (x : Outside _ _ _). x.plan) start in
     let same : ending_as plan (record { parts = c.into_parts-parts.result; report = c.report-report.result }) ≡ o = outside_is o plan c.into_parts-parts.result.intake c.into_parts-parts.result.clock c.report-report.result.taken c.report-report.result.ending c.report-report.result.counts.refused_memory
-        (sym over) c.into_parts-parts.ensures.intake c.into_parts-parts.ensures.clock c.report-report.ensures.taken c.report-report.ensures.ending (ap (λ k. k.refused_memory) c.report-report.ensures.counts ∙ sym sound.refusals) in
+    (sym over) c.into_parts-parts.ensures.intake c.into_parts-parts.ensures.clock c.report-report.ensures.taken c.report-report.ensures.ending (ap (λ k. k.refused_memory) c.report-report.ensures.counts ∙ sym sound.refusals) in
     has_run g.I.Intake g.K.Sink g.A.Answerer g.C.Clock g.D.Derive plan c.args.parts (record { parts = c.into_parts-parts.result; report = c.report-report.result }) desk.floor same
     c.into_parts-parts.ensures.sinks c.into_parts-parts.ensures.answerer c.report-report.ensures.counts c.carry.ensures.ended
     (subst (λ (x : Outside _ _ _). EndedWith o.ending (g.I.Intake.faults x.intake) (g.I.Intake.faults o.intake)) start c.carry.ensures.faults)
