@@ -2,7 +2,7 @@
 use Rattle.std.proofs.Common.{◌≡◌, ℕ, zero, suc, ◌+◌, ◌<◌, ◌≤◌, false, List, [], ◌∷◌, ◌++◌, length, take, drop, map, get_or, ◌⊎◌, inl, inr, arith, refl, sym, ap, ◌∙◌, subst, Option, Some, None}
 use Rattle.std.specs.Prelude.{if◌then◌else◌}
 use Rattle.bt_commands.specs.Calls.{asked}
-use Rattle.bt_openings.specs.Objects.{FreshSink, FreshSinks, FreshSource, HasBytes, IsFile, SinksPlaced, SourcesAre, StdinIs}
+use Rattle.bt_openings.specs.Objects.{FreshSink, FreshSinks, FreshSource, FreshSources, HasBytes, IsFile, SinksPlaced, SourcesAre, StdinIs}
 use Rattle.bt_openings.specs.Opened.{AreSources}
 use Rattle.bt_openings.specs.Openings.{AllMade}
 use Rattle.bt_openings.specs.Plan.{sink_openings, opening_of}
@@ -120,3 +120,10 @@ all_length (x ∷ xs) (y ∷ ys) w = let a = all_length xs ys (omega arith) in o
 pub sources_at : {S E I : Type 0} (g : Source.Ghosts S) (m n : ℕ) (b a : Tale E I) (files : Option (List (List ℕ))) (ns : List (Named S)) → m ≡ n → b.stdin ≡ a.stdin → b.files ≡ a.files → AreSources g m b files ns → AreSources g n a files ns
 sources_at g m n b a None ns p s f h = subst (λ k. StdinIs g k a.stdin ns) p (subst (λ x. StdinIs g m x ns) s h)
 sources_at g m n b a (Some paths) ns p s f h = subst (λ k. SourcesAre g k a.files paths ns) p (subst (λ x. SourcesAre g m x paths ns) f h)
+
+pub fresh_sources_next : {S : Type 0} (g : Source.Ghosts S) (ns us : List (Named S)) (x : Named S) → us ≡ ns ++ x ∷ [] → FreshSources g ns → FreshSource g x.source → FreshSources g us
+fresh_sources_next g ns us x e f h = subst (λ vs. FreshSources g vs) (sym e) (each_next (λ k y. FreshSource g y.source) ns x f h)
+
+-- one source
+pub fresh_source_only : {S : Type 0} (g : Source.Ghosts S) (ns us : List (Named S)) (x : Named S) → us ≡ ns ++ x ∷ [] → ns ≡ [] → FreshSource g x.source → FreshSources g us
+fresh_source_only g ns us x e z h = fresh_sources_next g ns us x e (λ k d w. (let a = ap length z in absurd (omega arith))) h

@@ -28,6 +28,10 @@ pub record FreshSource {S : Type 0} (g : Source.Ghosts S) (s : S) : Type 0 where
   pub faults : g.faults s ≡ 0
   pub untaken : IsTrue (g.tells s) → g.taken s ≡ 0
 
+-- each of the sources is fresh
+abbrev pub FreshSources : {S : Type 0} → Source.Ghosts S → List (Named S) → Type 0
+FreshSources {S} g ns = (k : ℕ) (d : Named S) → k < length ns → FreshSource g (get_or ns k d).source
+
 -- The bytes of a source of that name, where it tells: the standard input where it has that name, and else those of the file.
 abbrev pub HasBytes : {S : Type 0} → Source.Ghosts S → (files : List ℕ → Option (List ℕ)) → (stdin name : List ℕ) → S → Type 0
 HasBytes g files stdin name s = IsTrue (g.tells s) → source_bytes files stdin name ≡ Some (g.bytes s)

@@ -1,6 +1,6 @@
 -- What a run has opened.
 use Rattle.std.specs.Prelude.{◌≡◌, ℕ, ◌+◌, List, length, Option, Some, None}
-use Rattle.bt_openings.specs.Objects.{FreshAnswerer, FreshSinks, SinksPlaced, SourcesAre, StdinIs}
+use Rattle.bt_openings.specs.Objects.{FreshAnswerer, FreshSinks, FreshSources, SinksPlaced, SourcesAre, StdinIs}
 use Rattle.bt_openings.specs.declared.opening.Opening.{Opening}
 use Rattle.bt_ports.specs.World.{Tale}
 use Rattle.bt_ports.specs.declared.outside.Answerer as Answerer
@@ -20,8 +20,9 @@ pub record IsOpened {S K A E I : Type 0} (gs : Source.Ghosts S) (gk : Sink.Ghost
   pub answerer : ga.place o.answerer ≡ length a.calls + length names + 1
   pub sources : AreSources gs (length a.calls + length names + 2) a files o.sources.list
 
--- the sinks and the answerer are fresh
-pub record IsFresh {S K A : Type 0} (gk : Sink.Ghosts K) (ga : Answerer.Ghosts A) (names : List (List ℕ)) (o : Opening S K A) : Type 0 where
+-- the sinks, the answerer and the sources are fresh
+pub record IsFresh {S K A : Type 0} (gs : Source.Ghosts S) (gk : Sink.Ghosts K) (ga : Answerer.Ghosts A) (names : List (List ℕ)) (o : Opening S K A) : Type 0 where
   pub many : length o.sinks.list ≡ length names
   pub sinks : FreshSinks gk o.sinks.list
   pub answerer : FreshAnswerer ga o.answerer
+  pub sources : FreshSources gs o.sources.list

@@ -1,5 +1,6 @@
 //! All openings of a run.
 ghost use Rattle.std.specs.Prelude.{◌≡◌, ◌+◌, ◌∷◌, [], length, IfOk, IsTrue, option_map};
+ghost use Rattle.bt_openings.specs.Objects.{FreshSources};
 ghost use Rattle.bt_openings.specs.Opened.{AreSources, IsFresh, IsOpened};
 ghost use Rattle.bt_openings.specs.Openings.{Opens};
 ghost use Rattle.bt_openings.specs.Plan.{openings, source_openings};
@@ -30,6 +31,7 @@ fn open_sources<W: World>(
     world: &mut W,
 ) -> Result<Sources<W::S>, Stop>
     ensures opens { Opens ⟦<W as World>⟧ (source_openings (option_map (λ f. f.now) files.entry)) result world.old world.new }
+    ensures fresh { IfOk result (λ sources. FreshSources ⟦<W::S as Source>⟧ sources.list) }
     ensures are { IsTrue (W.tells world.new) → IfOk result (λ sources. AreSources ⟦<W::S as Source>⟧ (length (W.tale world.old).calls + 1) (W.tale world.old) (option_map (λ f. f.now) files.entry) sources.list) }
 {
     match files {
@@ -55,7 +57,7 @@ pub fn open_run<W: World>(
 ) -> Result<Opening<W::S, W::K, W::A>, Stop>
     requires { length names.now ≡ length ends.now }
     ensures opens { Opens ⟦<W as World>⟧ (openings names.now ends.now (option_map (λ p. p.now) answers.entry) (option_map (λ f. f.now) files.entry)) result world.old world.new }
-    ensures fresh { IfOk result (IsFresh ⟦<W::K as Sink>⟧ ⟦<W::A as Answerer>⟧ names.now) }
+    ensures fresh { IfOk result (IsFresh ⟦<W::S as Source>⟧ ⟦<W::K as Sink>⟧ ⟦<W::A as Answerer>⟧ names.now) }
     ensures are { IsTrue (W.tells world.new) → IfOk result (IsOpened ⟦<W::S as Source>⟧ ⟦<W::K as Sink>⟧ ⟦<W::A as Answerer>⟧ names.now (option_map (λ f. f.now) files.entry) (W.tale world.old)) }
 {
     let sinks = match open_sinks(alloc, names, ends, world) {

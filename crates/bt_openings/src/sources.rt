@@ -1,7 +1,7 @@
 //! Opening the sources.
 ghost use Rattle.std.specs.Prelude.{◌≡◌, ◌+◌, ◌∷◌, [], length, IfOk, IsTrue, None, Some, string_bytes};
 ghost use Rattle.bt_commands.specs.Lines.{failure_line};
-ghost use Rattle.bt_openings.specs.Objects.{FreshSource, HasBytes, SourcesAre, StdinIs};
+ghost use Rattle.bt_openings.specs.Objects.{FreshSource, FreshSources, HasBytes, SourcesAre, StdinIs};
 ghost use Rattle.bt_openings.specs.Openings.{Opens};
 ghost use Rattle.bt_openings.specs.Plan.{opening_of, source_openings};
 
@@ -45,6 +45,7 @@ fn open_source<W: World>(alloc: Global, name: &str, world: &mut W) -> Result<W::
 /// Opens the standard input as the only source, which has no path.
 pub fn open_stdin<W: World>(alloc: Global, world: &mut W) -> Result<Sources<W::S>, Stop>
     ensures opens { Opens ⟦<W as World>⟧ (source_openings None) result world.old world.new }
+    ensures fresh { IfOk result (λ sources. FreshSources ⟦<W::S as Source>⟧ sources.list) }
     ensures is { IsTrue (W.tells world.new) → IfOk result (λ sources. StdinIs ⟦<W::S as Source>⟧ (length (W.tale world.old).calls + 1) (W.tale world.old).stdin sources.list) }
 {
     let mut sources = Sequence::new(alloc);
@@ -89,6 +90,7 @@ pub fn open_files<W: World>(
 ) -> Result<Sources<W::S>, Stop>
     ensures opens { Opens ⟦<W as World>⟧ (source_openings (Some paths.now)) result world.old world.new }
     ensures many { IfOk result (λ sources. length sources.list ≡ length paths.now) }
+    ensures fresh { IfOk result (λ sources. FreshSources ⟦<W::S as Source>⟧ sources.list) }
     ensures are { IsTrue (W.tells world.new) → IfOk result (λ sources. SourcesAre ⟦<W::S as Source>⟧ (length (W.tale world.old).calls + 1) (W.tale world.old).files paths.now sources.list) }
 {
     let mut sources = Sequence::new(alloc);

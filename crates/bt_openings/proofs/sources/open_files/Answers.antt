@@ -2,7 +2,7 @@ use Rattle.std.proofs.Common.{◌≡◌, ℕ, ◌+◌, Ok, Err, ◌++◌, ◌∷
 use Rattle.bt_openings.specs.Objects.{IsFile}
 use Rattle.bt_openings.specs.Openings.{Opens}
 use Rattle.bt_openings.specs.Plan.{opening_of}
-use Rattle.bt_openings.proofs.Rows.{paths_next, paths_rest, paths_length, files_next, is_file, made_files, made_length}
+use Rattle.bt_openings.proofs.Rows.{paths_next, paths_rest, paths_length, files_next, fresh_sources_next, is_file, made_files, made_length}
 use Rattle.bt_openings.proofs.Steps.{opens_then, opens_stopped, opens_early}
 use Rattle.bt_ports.specs.Contents.{Contents}
 use Rattle.bt_ports.specs.declared.parts.Named.{Named}
@@ -36,6 +36,7 @@ files-preserved g c =
       room = let a = c.push_reserved.ensures.spare in let b = c.files.invariant.room in omega arith;
       opens = subst (λ cs. Opens {T = ℕ} g.W.World cs (Ok 0) c.args.world.now c.open_file.new.world) (sym next)
           (opens_then g.W.World now (call ∷ []) 0 c.in-Ok.named 0 c.args.world.now c.files.world c.open_file.new.world c.files.invariant.opens c.in-Ok.ensures.opens);
+      fresh = fresh_sources_next g.W.S.Source c.files.sources.list c.push_reserved.new.self.list c.in-Ok.named c.push_reserved.ensures.list c.files.invariant.fresh c.in-Ok.ensures.fresh;
       are = λ t.
           (let u = c.in-Ok.ensures.opens.told.0 t in
           let made = c.files.invariant.opens.tells u in
