@@ -1,0 +1,6 @@
+pub mod Compiled
+pub mod Kinds
+pub mod Made
+pub mod Reading
+pub mod Scanners
+pub mod Views
