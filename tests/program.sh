@@ -46,8 +46,7 @@ little_memory() {
     set --
     for _ in 1 2 3 4 5 6 7 8 9 10 11 12 13 14 15; do set -- "$@" "$word"; done
     for kilobytes in $(seq 1000 500 64000); do
-        (ulimit -v "$kilobytes"; exec "$program" "$@") 2> "$work/little"
-        status=$?
+        { (ulimit -v "$kilobytes"; exec "$program" "$@") 2> "$work/little"; status=$?; } 2> "$work/killed"
         case $status in 2 | 6) cat "$work/little" >&2; return $status ;; esac
     done
 }
