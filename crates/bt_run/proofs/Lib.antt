@@ -1,6 +1,7 @@
 pub mod Carrying
 pub mod FirstCall
 pub mod HandedBack
+pub mod Parts
 pub mod Plans
 pub mod Tales
 pub mod Whole

@@ -8,4 +8,5 @@ mod form;
 pub mod halt;
 mod lines;
 mod openings;
+mod parts;
 mod report;
