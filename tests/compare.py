@@ -39,7 +39,8 @@ def difference(name, want, got):
     """Lines that tell how a content differs, none where it doesn't: the first lines of it that do."""
     if want is None or got is None:
         return [f"    {name}: {'not expected' if want is None else 'missing'}"]
-    want, got = in_order(name, want), in_order(name, got)
+    if want != got:
+        want, got = in_order(name, want), in_order(name, got)
     if want == got:
         return []
     pairs = itertools.zip_longest(want.splitlines(keepends=True), got.splitlines(keepends=True), fillvalue=b"")
