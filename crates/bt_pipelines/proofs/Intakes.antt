@@ -1,5 +1,5 @@
 -- The intake that a run begins with.
-use Rattle.std.proofs.Common.{◌≡◌, ℕ, ◌<◌, List, length, get_or, Bool, true, false, IsTrue, refl, sym, subst}
+use Rattle.std.proofs.Common.{◌≡◌, ℕ, ◌<◌, List, length, get_or, Bool, true, false, true≢false, IsTrue, refl, sym, subst, ◌∙◌}
 use Rattle.std.proofs.lemmas.List.Folds.{list_all_at}
 use Rattle.std.specs.List.{All, list_all}
 use Rattle.bt_demand.specs.declared.derive.Derive as Derive
@@ -21,8 +21,8 @@ each_tells : {T : Type 0} (p : T → Bool) (xs : List T) (i : ℕ) (d : T) → i
 each_tells p xs i d w t = go (p (get_or xs i d)) refl
   where
     go : (b : Bool) → p (get_or xs i d) ≡ b → IsTrue (p (get_or xs i d))
-    go true h = subst IsTrue (sym h) tt
-    go false h = absurd (subst IsTrue (list_all_at p xs i d w h) t)
+    go true h = h
+    go false h = absurd (true≢false (sym t ∙ list_all_at p xs i d w h))
 
 -- no byte of fresh sources was taken, where all of them tell
 pub untaken : {S : Type 0} (g : Source.Ghosts S) (ns : List (Named S)) → FreshSources g ns → IsTrue (all_tell g ns) → All (λ n. g.taken n.source ≡ 0) ns

@@ -32,4 +32,3 @@ Output-field-sync = both_sync-Output
     (search parts depth 40) (search parts depth 40) (search parts depth 40) (search parts depth 40) (search parts depth 40) (search parts depth 40)
     (search parts depth 40) (search parts depth 40) (search parts depth 40) (search parts depth 40) (search parts depth 40) (search parts depth 40)
     (search parts depth 40) (search parts depth 40)
-

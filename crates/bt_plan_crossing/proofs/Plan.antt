@@ -28,4 +28,3 @@ Plan-send = search (sendable, crosses, items.the_send, sequence.the_send, text.t
 
 pub Plan-sync : IsSync Plan.the_row
 Plan-sync = search (sendable, crosses, items.the_sync, sequence.the_sync, text.the_sync, blob.the_sync, HoldPolicy-sync, Processor-sync, Processor-field-sync, Output-field-sync) depth 40 fits 10000
-

@@ -78,4 +78,3 @@ pub Processor-field-sync : IsSync Processor.the_field.row
 Processor-field-sync = both_sync-Processor
     (search parts2 depth 40) (search parts2 depth 40) (search parts2 depth 40) (search parts2 depth 40) (search parts2 depth 40) (search parts2 depth 40)
     (search parts2 depth 40) (search parts2 depth 40) (search parts2 depth 40) (search parts2 depth 40) (search parts2 depth 40) (search parts2 depth 40)
-
