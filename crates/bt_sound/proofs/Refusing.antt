@@ -208,11 +208,13 @@ snoc_length (x ∷ cs) c = let a = snoc_length cs c in omega arith
 
 -- no item was refused yet
 pub refused_none : {A : Type 0} (g : Answerer.Ghosts A) (j : A) (c : Counts) (n : ℕ) → RefusedAll g j j c c n 0 []
-refused_none g j c n = record { many = refl; each = tt; told = λ x. x; calls = λ x. sym (append-nil (g.calls j)); counted = refl }
+refused_none g j c n = record { place = refl; faults = omega arith; many = refl; each = tt; told = λ x. x; calls = λ x. sym (append-nil (g.calls j)); counted = refl }
 
 -- one more was
 pub refused_more : {A : Type 0} (g : Answerer.Ghosts A) (j k m : A) (c d e : Counts) (n i : ℕ) (cs : List AnswerCall) (call : AnswerCall) → RefusedAll g j k c d n i cs → RefusedOne g k m d e n i call → RefusedAll g j m c e n (i + 1) (cs ++ call ∷ [])
 refused_more g j k m c d e n i cs call h o = record {
+  place = o.place ∙ h.place;
+  faults = (let a = h.faults in let b = o.faults in omega arith);
   many = (let a = snoc_length cs call in let b = h.many in omega arith);
   each = refusals_snoc cs n 0 call h.each (subst (λ q. IsRefusal n q call) (let b = h.many in let z : i ≡ 0 + length cs = omega arith in z) o.is);
   told = λ x. h.told (o.told x);

@@ -1,7 +1,8 @@
 -- What settling adds to the lists of the sinks and of the answerer, in a floor without holds.
-use Rattle.std.specs.Prelude.{◌≡◌, ◌≢◌, ℕ, ◌<◌, ◌≤◌, true, List, [], ◌∷◌, ◌++◌, length, get_or, IsTrue}
+use Rattle.std.specs.Prelude.{◌≡◌, ◌≢◌, ℕ, ◌<◌, ◌≤◌, ◌⊎◌, true, List, [], ◌∷◌, ◌++◌, length, get_or, IsTrue}
 use Rattle.std.specs.List.{AllByRecursion}
 use Rattle.bt_demand.specs.Parts.{Part}
+use Rattle.bt_demand.specs.WellFormed.{leaves}
 use Rattle.bt_ledger.specs.Due.{times, IsDue, open_parts}
 use Rattle.bt_ledger.specs.Ledger.{slot_at, number_in, parts_in, answered_in, is_given}
 use Rattle.bt_ledger.specs.Open.{Open, from_of, tree_of}
@@ -10,12 +11,33 @@ use Rattle.bt_ports.specs.declared.outside.Answerer as Answerer
 use Rattle.bt_ports.specs.declared.outside.Sink as Sink
 use Rattle.bt_ports.specs.declared.parts.AnswerCall.{AnswerCall}
 use Rattle.bt_ports.specs.declared.parts.Record.{Record}
+use Rattle.bt_sound.specs.Answers.{RefusalsFrom}
 use Rattle.bt_sound.specs.View.{FloorView}
 
 -- records of transaction n, of parts from `lo` up to `hi`, in order of part
 abbrev pub RecordsInTurn : (n lo hi : ℕ) → List Record → Type 0
 RecordsInTurn n lo hi [] = Unit {0}
 RecordsInTurn n lo hi (r ∷ rs) = (r.txn ≡ n) × ((lo ≤ r.part) × ((r.part < hi) × RecordsInTurn n r.part hi rs))
+
+-- m stands in the list, and n later in it
+abbrev pub StandsBefore : (m n : ℕ) → List ℕ → Type 0
+StandsBefore m n [] = ⊥
+StandsBefore m n (x ∷ xs) = ((m ≡ x) × (1 ≤ times n xs)) ⊎ StandsBefore m n xs
+
+-- of two records of one part, the earlier is for a leaf that stands before that of the later in the part's demand
+abbrev pub LeavesInTurn : List Part → List Record → Type 0
+LeavesInTurn ps [] = Unit {0}
+LeavesInTurn ps (r ∷ rs) = AllByRecursion (λ s. s.part ≡ r.part → StandsBefore r.leaf s.leaf (leaves (tree_of ps r.part))) rs × LeavesInTurn ps rs
+
+-- records of transaction n, which has these parts, of those from `lo` up to `hi`: in order of part, and those of a part in the
+-- order of its leaves
+abbrev pub PutInTurn : List Part → (n lo hi : ℕ) → List Record → Type 0
+PutInTurn ps n lo hi rs = RecordsInTurn n lo hi rs × LeavesInTurn ps rs
+
+-- no record, or one for this leaf of a part of transaction n
+abbrev pub AtMostOne : (n p l : ℕ) → List Record → Type 0
+AtMostOne n p l [] = Unit {0}
+AtMostOne n p l (r ∷ rs) = ((r.txn ≡ n) × ((r.part ≡ p) × (r.leaf ≡ l))) × (rs ≡ [])
 
 -- calls for items of transaction n, each of which a part from `lo` up to `hi` comes from, in order of these parts
 abbrev pub CallsInTurn : List Part → (n lo hi : ℕ) → List AnswerCall → Type 0
@@ -49,11 +71,12 @@ pub record AnswererAdds {A : Type 0} (g : Answerer.Ghosts A) (P : List AnswerCal
 abbrev pub SinksAdd : {K : Type 0} → Sink.Ghosts K → (List Record → Type 0) → List K → List K → Type 0
 SinksAdd {K} g P js ks = (length ks ≡ length js) × ((k : ℕ) (d : K) → SinkAdds g P (get_or js k d) (get_or ks k d))
 
--- a slot later has the same number and as many parts, which come from the same items
+-- a slot later has the same number and as many parts, which come from the same items and have the same leaves
 pub record SameFrom (x y : Slot) : Type 0 where
   pub number : number_in y ≡ number_in x
   pub many : length (parts_in y) ≡ length (parts_in x)
   pub from : (q : ℕ) → from_of (parts_in y) q ≡ from_of (parts_in x) q
+  pub same_leaves : (q : ℕ) → leaves (tree_of (parts_in y) q) ≡ leaves (tree_of (parts_in x) q)
 
 -- a slot later, while one of its parts is settled: all else stays
 pub record OnlyPart (p : ℕ) (x y : Slot) : Type 0 where
@@ -62,10 +85,10 @@ pub record OnlyPart (p : ℕ) (x y : Slot) : Type 0 where
   pub trees : (q : ℕ) → q ≢ p → tree_of (parts_in y) q ≡ tree_of (parts_in x) q
   pub given : is_given y ≡ true
 
--- The parts of a slot from `lo` up to `hi` were settled in turn: only records of these parts were put, and only items that
--- these parts come from were answered.
+-- The parts of a slot from `lo` up to `hi` were settled in turn: only records of these parts were put, in the order of their
+-- leaves, and only items that these parts come from were answered.
 pub record Turned {I K A C D : Type 0} (gk : Sink.Ghosts K) (ga : Answerer.Ghosts A) (s lo hi : ℕ) (f g : FloorView I K A C D) : Type 0 where
-  pub sinks : SinksAdd gk (RecordsInTurn (number_in (slot_at f.ledger s)) lo hi) f.sinks g.sinks
+  pub sinks : SinksAdd gk (PutInTurn (parts_in (slot_at f.ledger s)) (number_in (slot_at f.ledger s)) lo hi) f.sinks g.sinks
   pub answers : AnswererAdds ga (CallsInTurn (parts_in (slot_at f.ledger s)) (number_in (slot_at f.ledger s)) lo hi) f.answerer g.answerer
   pub same : is_given (slot_at g.ledger s) ≡ true → SameFrom (slot_at f.ledger s) (slot_at g.ledger s)
   pub policies : g.ledger.policies ≡ f.ledger.policies
@@ -78,7 +101,17 @@ CallsAtOnce ps n cs = AllByRecursion (λ c. (c.number ≡ n) × (open_parts c.it
 abbrev pub CallsDelivered : List Part → (n : ℕ) → List AnswerCall → Type 0
 CallsDelivered ps n cs = (at_once : List AnswerCall) × ((later : List AnswerCall) × ((cs ≡ at_once ++ later) × (CallsAtOnce ps n at_once × CallsInTurn ps n 0 (length ps) later)))
 
--- Transaction n was delivered with these parts, in order: the records are its own, by part, and so are the calls.
+-- Transaction n was delivered with these parts, in order: the records are its own, by part and by leaf, and so are the calls,
+-- by part.
 pub record DeliveredInTurn {I K A C D : Type 0} (gk : Sink.Ghosts K) (ga : Answerer.Ghosts A) (n : ℕ) (ps : List Part) (f g : FloorView I K A C D) : Type 0 where
-  pub sinks : SinksAdd gk (RecordsInTurn n 0 (length ps)) f.sinks g.sinks
+  pub sinks : SinksAdd gk (PutInTurn ps n 0 (length ps)) f.sinks g.sinks
   pub answers : AnswererAdds ga (CallsDelivered ps n) f.answerer g.answerer
+
+-- calls that refuse each of so many items of transaction n for want of memory, in order
+abbrev pub Refusals : (n items : ℕ) → List AnswerCall → Type 0
+Refusals n items cs = (length cs ≡ items) × RefusalsFrom n 0 cs
+
+-- There was no memory for the parts of transaction n: no record was put, and each of its items was refused for that, in order.
+pub record RefusedInTurn {I K A C D : Type 0} (ga : Answerer.Ghosts A) (n items : ℕ) (f g : FloorView I K A C D) : Type 0 where
+  pub sinks : g.sinks ≡ f.sinks
+  pub answers : AnswererAdds ga (Refusals n items) f.answerer g.answerer
