@@ -1,5 +1,5 @@
 -- A run in which nothing failed delivered what it took.
-use Rattle.std.proofs.Common.{◌≡◌, ◌≢◌, ℕ, zero, suc, ◌+◌, ◌-◌, ◌<◌, ◌≤◌, Bool, true, false, cond, eqb, ltb, ◌&&◌, List, [], ◌∷◌, ◌++◌, length, get_or, ◌⊎◌, arith, refl, sym, ap, ◌∙◌, subst, inl, inr, IsTrue, Option, Some, None}
+use Rattle.std.proofs.Common.{◌≡◌, ℕ, zero, suc, ◌+◌, ◌-◌, ◌<◌, ◌≤◌, Bool, true, false, cond, eqb, ltb, ◌&&◌, List, [], ◌∷◌, ◌++◌, length, get_or, ◌⊎◌, arith, refl, sym, ap, ◌∙◌, subst, inl, inr, IsTrue, None}
 use Rattle.std.specs.Prelude.{flat_map, if◌then◌else◌}
 use Rattle.std.specs.List.{AllByRecursion, count_by}
 use Rattle.std.proofs.lemmas.Bool.{eqb-true}
@@ -9,25 +9,21 @@ use Rattle.bt_account.specs.Delivered.{AllDelivered, HasDelivered, IsDelivered, 
 use Rattle.bt_account.specs.Ended.{TookAll}
 use Rattle.bt_account.proofs.Owing.{at_before, clean_met, met_not_lost, none_lost}
 use Rattle.bt_carry.specs.Account.{Account, AllTell, Answered, Became, Closed, IsPutFor, Put, verdict_on, why_on}
-use Rattle.bt_carry.specs.Settled.{all_accepted, all_refused, EachRecord, settled, state_among}
-use Rattle.bt_carry.proofs.Sinks.{is_of_tells}
+use Rattle.bt_carry.specs.Settled.{all_accepted, all_refused, settled, state_among}
 use Rattle.bt_carry.proofs.Verdicts.{tree_settled}
 use Rattle.bt_demand.specs.Asked.{asked, IsClean, owed}
 use Rattle.bt_demand.specs.Holding.{one_if}
 use Rattle.bt_demand.specs.Outcomes.{lost, met}
 use Rattle.bt_demand.specs.Parts.{Part}
 use Rattle.bt_demand.specs.Recorded.{recorded}
-use Rattle.bt_demand.specs.Tree.{Tree}
 use Rattle.bt_demand.specs.declared.demand.State.{State}
-use Rattle.bt_demand.specs.declared.demand.State.TheVariants.{Untried as Fresh, Good, Bad}
+use Rattle.bt_demand.specs.declared.demand.State.TheVariants.{Good}
 use Rattle.bt_demand.specs.declared.derive.Derive as Derive
-use Rattle.bt_floor.specs.Calls.{SameRun}
 use Rattle.bt_floor.specs.declared.making.Parts.{Parts}
 use Rattle.bt_leaves.specs.LeafAt.{LeafAt}
 use Rattle.bt_ledger.specs.Due.{times}
 use Rattle.bt_ledger.specs.Open.{tree_of}
 use Rattle.bt_ledger.specs.Verdicts.{lost_from, verdict_by, why_by}
-use Rattle.bt_ports.specs.Faults.{last_count}
 use Rattle.bt_ports.specs.declared.outside.Answerer as Answerer
 use Rattle.bt_ports.specs.declared.outside.Clock as Clock
 use Rattle.bt_ports.specs.declared.outside.Intake as Intake
@@ -42,11 +38,9 @@ use Rattle.bt_ports.specs.declared.parts.Verdict.TheVariants.{Ack, Refused}
 use Rattle.bt_runner.specs.Ran.{HasRun, ending_as}
 use Rattle.bt_runner.specs.declared.run.Ran.{Ran}
 use Rattle.bt_sound.specs.Answers.{calls_for, is_for}
-use Rattle.bt_sound.specs.Counting.{AnswersCounted, capped, wants_memory}
+use Rattle.bt_sound.specs.Counting.{capped, wants_memory}
 use Rattle.bt_sound.specs.Course.{GaveAll}
 use Rattle.bt_sound.specs.Records.{records_of}
-use Rattle.bt_sound.specs.Transactions.{IsTransaction}
-use Rattle.bt_sound.specs.declared.counts.Ending.{Ending}
 use Rattle.bt_sound.proofs.Lists.{each_map}
 
 both_true : (a b : Bool) → (a && b) ≡ true → a ≡ true

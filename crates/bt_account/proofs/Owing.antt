@@ -1,9 +1,8 @@
 -- A clean demand of which each asked leaf was accepted is met, and asks for what it owes.
-use Rattle.std.proofs.Common.{◌≡◌, ℕ, zero, suc, ◌+◌, ◌≤◌, Bool, true, false, cond, eqb, ltb, ◌&&◌, ◌||◌, List, [], ◌∷◌, ◌++◌, map, arith, refl, sym, ap, ◌∙◌, subst, eq-eqb, inl, inr, Option, Some, None}
+use Rattle.std.proofs.Common.{◌≡◌, ℕ, suc, ◌+◌, ◌≤◌, Bool, true, false, cond, ltb, ◌&&◌, ◌||◌, List, [], ◌∷◌, ◌++◌, arith, refl, sym, ap, ◌∙◌, eq-eqb, inl, inr, Option, Some, None}
 use Rattle.std.specs.Prelude.{if◌then◌else◌}
 use Rattle.std.proofs.lemmas.List.{append-nil, map-append}
 use Rattle.bt_account.specs.Delivered.{owed_leaves}
-use Rattle.bt_carry.specs.Settled.{settled_from, state_among}
 use Rattle.bt_demand.specs.Asked.{asked, asked_in, asked_after_lost, owed, owed_in, owed_of_head, IsClean, AreClean, HeadIsClean, Owed}
 use Rattle.bt_demand.specs.Holding.{one_if}
 use Rattle.bt_demand.specs.Outcomes.{accepted, is_lost, is_met, lost, met, all_met, met_after_lost, outcome}
@@ -11,14 +10,14 @@ use Rattle.bt_demand.specs.Parts.{Part}
 use Rattle.bt_demand.specs.Recorded.{recorded, recorded_in}
 use Rattle.bt_demand.specs.Tree.{Tree, Trees, leaf, drop as nothing, reject, all, first, hold, none, more}
 use Rattle.bt_demand.specs.declared.demand.State.{State}
-use Rattle.bt_demand.specs.declared.demand.State.TheVariants.{Untried as Fresh, Good, Bad}
+use Rattle.bt_demand.specs.declared.demand.State.TheVariants.{Good}
 use Rattle.bt_demand.specs.declared.outcome.Outcome.{Outcome}
 use Rattle.bt_demand.specs.declared.outcome.Outcome.TheVariants.{Open as Pending, Met, Lost}
 use Rattle.bt_demand.proofs.Outcomes.{outcome-lost, outcome-met}
 use Rattle.bt_leaves.specs.LeafAt.{LeafAt, LeafIn}
 use Rattle.bt_ledger.specs.Due.{times}
 use Rattle.bt_ledger.specs.Open.{tree_of}
-use Rattle.bt_ledger.specs.Verdicts.{is_lost_from, lost_from}
+use Rattle.bt_ledger.specs.Verdicts.{lost_from}
 
 times_append : (l : ℕ) (xs ys : List ℕ) → times l (xs ++ ys) ≡ times l xs + times l ys
 times_append l [] ys = omega arith

@@ -1,16 +1,16 @@
 -- What a run leaves stays in order, turn by turn.
-use Rattle.std.proofs.Common.{◌≡◌, ℕ, zero, suc, ◌+◌, ◌-◌, ◌^◌, ◌<◌, ◌≤◌, List, [], ◌∷◌, ◌++◌, length, get_or, slice_get, ◌⊎◌, inl, inr, arith, refl, sym, ap, ◌∙◌, subst, Some, Result, Ok, Err, IfOk, IfErr, IsTrue}
+use Rattle.std.proofs.Common.{◌≡◌, ℕ, ◌+◌, ◌-◌, ◌^◌, ◌<◌, ◌≤◌, List, [], ◌∷◌, ◌++◌, length, get_or, slice_get, ◌⊎◌, inl, inr, arith, refl, sym, ap, ◌∙◌, subst, Result, Ok, Err, IfOk, IfErr, IsTrue}
 use Rattle.std.specs.List.{AllByRecursion}
 use Rattle.std.proofs.lemmas.Bool.Decides.{leb_tells}
 use Rattle.bt_carry.specs.Calls.{ReadForEach, ReadsItems}
-use Rattle.bt_carry.specs.Order.{AddsInTurn, AllOrdered, AnsweredInOrder, InInputOrder, LeafBefore, OrderedSoFar, Precedes, PutSoFar}
+use Rattle.bt_carry.specs.Order.{AddsInTurn, AnsweredInOrder, InInputOrder, OrderedSoFar, Precedes, PutSoFar}
 use Rattle.bt_carry.proofs.Carrying.{derived_by}
 use Rattle.bt_demand.specs.Parts.{Part, parts_of}
 use Rattle.bt_demand.specs.WellFormed.{leaves}
 use Rattle.bt_demand.specs.declared.derive.Derive as Derive
 use Rattle.bt_demand.specs.declared.routes.Routes.{Routes}
 use Rattle.bt_duties.specs.Calls.{NothingSettled}
-use Rattle.bt_floor.specs.Calls.{NothingAnswered, NothingPut, SameRun}
+use Rattle.bt_floor.specs.Calls.{SameRun}
 use Rattle.bt_ledger.specs.Due.{open_parts}
 use Rattle.bt_ledger.specs.Open.{tree_of}
 use Rattle.bt_ports.specs.Clock.{reading_at}
@@ -25,7 +25,7 @@ use Rattle.bt_ports.specs.declared.parts.Record.{Record}
 use Rattle.bt_ports.specs.declared.parts.Txn.{Txn}
 use Rattle.bt_sound.specs.Answers.{RefusalsFrom}
 use Rattle.bt_sound.specs.Transactions.{IsTransaction}
-use Rattle.bt_sound.specs.Turns.{AnswererAdds, CallsAtOnce, CallsDelivered, CallsInTurn, DeliveredInTurn, LeavesInTurn, PutInTurn, RecordsInTurn, Refusals, RefusedInTurn, SinksAdd, StandsBefore}
+use Rattle.bt_sound.specs.Turns.{AnswererAdds, CallsDelivered, CallsInTurn, DeliveredInTurn, LeavesInTurn, PutInTurn, RecordsInTurn, Refusals, RefusedInTurn, SinksAdd, StandsBefore}
 use Rattle.bt_sound.specs.View.{FloorView, Outside}
 use Rattle.bt_sound.proofs.Lists.{each_append, each_map}
 use Rattle.bt_sound.proofs.Turns.{answers_map, sinks_same}

@@ -1,12 +1,12 @@
 -- In a demand without holds the leaf that is next stands before all that may be put after it.
-use Rattle.std.proofs.Common.{◌≡◌, ℕ, zero, suc, ◌+◌, ◌≤◌, Bool, true, false, cond, eqb, List, [], ◌∷◌, ◌++◌, ◌⊎◌, inl, inr, arith, refl, sym, ap, ◌∙◌, subst, eq-eqb, Option, Some, None}
+use Rattle.std.proofs.Common.{◌≡◌, ℕ, ◌+◌, ◌≤◌, Bool, true, false, cond, eqb, List, [], ◌∷◌, ◌++◌, ◌⊎◌, inl, inr, arith, refl, sym, ap, ◌∙◌, subst, eq-eqb, Option, Some, None}
 use Rattle.bt_demand.specs.Holding.{one_if, is_open}
 use Rattle.bt_demand.specs.Next.{todo, todo_of_all, todo_of_first, todo_of_leaf, outcome_after, both, fallback}
 use Rattle.bt_demand.specs.Outcomes.{outcome, outcome_of_all, outcome_of_first, outcome_of_both, outcome_or_else}
 use Rattle.bt_demand.specs.Recorded.{Grows, untried, untried_in}
 use Rattle.bt_demand.specs.Steps.{settle, settle_each, settles, state_for}
 use Rattle.bt_demand.specs.Tree.{Tree, Trees, leaf, drop as nothing, reject, all, first, hold, none, more}
-use Rattle.bt_demand.specs.WellFormed.{WellFormed, leaves, leaves_in, nodes, nodes_in}
+use Rattle.bt_demand.specs.WellFormed.{leaves, leaves_in, nodes, nodes_in}
 use Rattle.bt_demand.specs.declared.demand.State.{State}
 use Rattle.bt_demand.specs.declared.demand.State.TheVariants.{Untried as Fresh, Good, Bad}
 use Rattle.bt_demand.specs.declared.outcome.Outcome.{Outcome}

@@ -95,6 +95,7 @@ sound_step gi gk ga gc gd f closed s p t cs us h w u o ut n told past unwritten 
       says = λ tells. each_map (λ c. SaysTrue f.ledger closed c) (λ c. SaysTrue (record (with_part f.ledger s p t) { chains = cs }) closed c) (ga.calls f.answerer)
           (λ c x. (over_step (λ y. y.number ≡ c.number → Says y c) is_given true f.ledger s p t w g (λ y z. says_step (open_in (slot_at f.ledger s)) p t c w.1 o (y z)) x.0, x.1)) (h.says tells);
       no_other = h.no_other;
+      answer_faults = h.answer_faults;
     }
 
 -- the sinks stay: what is said of leaves doesn't depend on the stages of holds

@@ -8,7 +8,7 @@ use Rattle.bt_ledger.specs.declared.slot.Slot.TheVariants.{Free}
 use Rattle.bt_moves.specs.Moves.{Answering}
 use Rattle.bt_sound.specs.View.{FloorView}
 use Rattle.bt_moves.proofs.Moves.{answering_with}
-use Rattle.bt_sound.proofs.Answered.{sound_answer, sound_memory}
+use Rattle.bt_sound.proofs.Answered.{fine_answer, sound_answer, sound_memory}
 use Rattle.bt_sound.proofs.Counting.{answer_memory}
 use Rattle.bt_sound.specs.Counting.{answer_with}
 use Rattle.bt_sound.specs.Turns.{AnswererAdds, CallsFor}
@@ -25,7 +25,7 @@ invariant_of-self g c =
     rw c.answered.ensures (
       c.self.invariant.0,
       sound_memory _ _ _ _ _ _ _ c.count_answer.new.counts.refused_memory same
-          (sound_answer _ _ _ _ _ _ c.self.invariant.0 c.args.slot c.args.item _ _ _ c.self.invariant.1 given due.0 c.number-number.ensures refl c.verdict_on-verdict.ensures c.why-why.ensures c.answer.ensures.told c.answer.ensures.adds counted),
+          (sound_answer _ _ _ _ _ _ c.self.invariant.0 c.args.slot c.args.item _ _ _ c.self.invariant.1 given due.0 c.number-number.ensures refl c.verdict_on-verdict.ensures c.why-why.ensures c.answer.ensures.told c.answer.ensures.adds c.answer.ensures.counted (fine_answer _ _ _ c.answer.ensures.failed) counted),
     )
 
 pub returns-clause-answering : goal.returns-clause-answering
