@@ -35,7 +35,8 @@ pub fn runs_to_the_end_take_all<I: Intake, K: Sink, A: Answerer, C: Clock, D: De
 {}
 
 /// A law: where the plan has no holds, the records of each sink are in input order: by transaction, within one by part, and
-/// within a part by the places of their leaves. The answers are in the order of the transactions. The call does nothing.
+/// within a part by the places of their leaves. The answers are given by transaction, within one by part, and by each part
+/// in the order of the items. The call does nothing.
 pub fn leaves_keep_input_order<I: Intake, K: Sink, A: Answerer, C: Clock, D: Derive>()
     ensures { (plan : D) (p : Parts I K A C) (r : Ran I K A C)
         → HasRun ⟦<I as Intake>⟧ ⟦<K as Sink>⟧ ⟦<A as Answerer>⟧ ⟦<C as Clock>⟧ ⟦<D as Derive>⟧ plan p r

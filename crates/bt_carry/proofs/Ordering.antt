@@ -1,17 +1,16 @@
 -- What a run leaves stays in order, turn by turn.
-use Rattle.std.proofs.Common.{◌≡◌, ℕ, ◌+◌, ◌-◌, ◌^◌, ◌<◌, ◌≤◌, List, [], ◌∷◌, ◌++◌, length, get_or, slice_get, ◌⊎◌, inl, inr, arith, refl, sym, ap, ◌∙◌, subst, Result, Ok, Err, IfOk, IfErr, IsTrue}
+use Rattle.std.proofs.Common.{◌≡◌, ℕ, zero, suc, ◌+◌, ◌-◌, ◌^◌, ◌<◌, ◌≤◌, List, [], ◌∷◌, ◌++◌, length, get_or, slice_get, ◌⊎◌, inl, inr, arith, refl, sym, ap, ◌∙◌, subst, Result, Ok, Err, IfOk, IfErr, IsTrue}
 use Rattle.std.specs.List.{AllByRecursion}
 use Rattle.std.proofs.lemmas.Bool.Decides.{leb_tells}
 use Rattle.bt_carry.specs.Calls.{ReadForEach, ReadsItems}
-use Rattle.bt_carry.specs.Order.{AddsInTurn, AnsweredInOrder, InInputOrder, OrderedSoFar, Precedes, PutSoFar}
-use Rattle.bt_carry.proofs.Carrying.{derived_by}
+use Rattle.bt_carry.specs.Order.{AddsInTurn, AnsweredAs, AnsweredInOrder, InInputOrder, OrderedSoFar, Precedes, PutSoFar}
+use Rattle.bt_carry.proofs.Carrying.{derived_by, some_same}
 use Rattle.bt_demand.specs.Parts.{Part, parts_of}
 use Rattle.bt_demand.specs.WellFormed.{leaves}
 use Rattle.bt_demand.specs.declared.derive.Derive as Derive
 use Rattle.bt_demand.specs.declared.routes.Routes.{Routes}
 use Rattle.bt_duties.specs.Calls.{NothingSettled}
 use Rattle.bt_floor.specs.Calls.{SameRun}
-use Rattle.bt_ledger.specs.Due.{open_parts}
 use Rattle.bt_ledger.specs.Open.{tree_of}
 use Rattle.bt_ports.specs.Clock.{reading_at}
 use Rattle.bt_ports.specs.Faults.{last_count}
@@ -23,44 +22,22 @@ use Rattle.bt_ports.specs.declared.outside.Sink as Sink
 use Rattle.bt_ports.specs.declared.parts.AnswerCall.{AnswerCall}
 use Rattle.bt_ports.specs.declared.parts.Record.{Record}
 use Rattle.bt_ports.specs.declared.parts.Txn.{Txn}
-use Rattle.bt_sound.specs.Answers.{RefusalsFrom}
 use Rattle.bt_sound.specs.Transactions.{IsTransaction}
-use Rattle.bt_sound.specs.Turns.{AnswererAdds, CallsDelivered, CallsInTurn, DeliveredInTurn, LeavesInTurn, PutInTurn, RecordsInTurn, Refusals, RefusedInTurn, SinksAdd, StandsBefore}
+use Rattle.bt_sound.specs.Turns.{AnswererAdds, CallsDelivered, DeliveredInTurn, LeavesInTurn, PutInTurn, RecordsInTurn, Refusals, RefusedInTurn, SinksAdd, StandsBefore}
 use Rattle.bt_sound.specs.View.{FloorView, Outside}
 use Rattle.bt_sound.proofs.Lists.{each_append, each_map}
 use Rattle.bt_sound.proofs.Turns.{answers_map, sinks_same}
 
--- the calls of a delivery are of its transaction
-calls_turn_of : (ps : List Part) (n lo hi : ℕ) (cs : List AnswerCall) → CallsInTurn ps n lo hi cs → AllByRecursion (λ c. c.number ≡ n) cs
-calls_turn_of ps n lo hi [] h = tt
-calls_turn_of ps n lo hi (c ∷ cs) h = (h.0, calls_turn_of ps n h.1.0 hi cs h.1.1.1.1.1)
-
-calls_of : (ps : List Part) (n : ℕ) (cs : List AnswerCall) → CallsDelivered ps n cs → AllByRecursion (λ c. c.number ≡ n) cs
-calls_of ps n cs h = subst (λ xs. AllByRecursion (λ (c : AnswerCall). c.number ≡ n) xs) (sym h.1.1.0)
-    (each_append (λ (c : AnswerCall). c.number ≡ n) h.0 h.1.0 (each_map (λ (c : AnswerCall). (c.number ≡ n) × (open_parts c.item ps ≡ 0)) (λ (c : AnswerCall). c.number ≡ n) h.0 (λ c w. w.0) h.1.1.1.0) (calls_turn_of ps n 0 (length ps) h.1.0 h.1.1.1.1))
-
-refusals_of : (n i : ℕ) (cs : List AnswerCall) → RefusalsFrom n i cs → AllByRecursion (λ c. c.number ≡ n) cs
-refusals_of n i [] h = tt
-refusals_of n i (c ∷ cs) h = (h.0.number, refusals_of n (i + 1) cs h.1)
-
 -- what became of the parts of a transaction
 pub adds_of : {I K A C D : Type 0} (gk : Sink.Ghosts K) (ga : Answerer.Ghosts A) (n items : ℕ) (ps : List Part) (f g : FloorView I K A C D) (r : Result Routes NoMemory) → IfOk r (λ x. parts_of x.parts.list ≡ ps) → IfOk r (λ x. f.ledger.policies ≡ [] → DeliveredInTurn gk ga n (parts_of x.parts.list) f g) → IfErr r (λ _. RefusedInTurn ga n items f g)
-    → f.ledger.policies ≡ [] → AddsInTurn gk ga n ps f g
+    → f.ledger.policies ≡ [] → AddsInTurn gk ga n items ps f g
 adds_of gk ga n items ps f g (Ok x) e h k q =
     let d = subst (λ qs. DeliveredInTurn gk ga n qs f g) e (h q) in
-    record { sinks = d.sinks; answers = answers_map ga (CallsDelivered ps n) (λ cs. AllByRecursion (λ c. c.number ≡ n) cs) f.answerer g.answerer (λ cs w. calls_of ps n cs w) d.answers }
+    record { sinks = d.sinks; answers = answers_map ga (CallsDelivered ps n) (λ cs. CallsDelivered ps n cs ⊎ Refusals n items cs) f.answerer g.answerer (λ cs w. inl w) d.answers }
 adds_of gk ga n items ps f g (Err x) e h k q = record {
   sinks = subst (λ ks. SinksAdd gk (PutInTurn ps n 0 (length ps)) f.sinks ks) (sym k.sinks) (sinks_same gk (PutInTurn ps n 0 (length ps)) f.sinks (tt, tt));
-  answers = answers_map ga (Refusals n items) (λ cs. AllByRecursion (λ c. c.number ≡ n) cs) f.answerer g.answerer (λ cs w. refusals_of n 0 cs w.1) k.answers;
+  answers = answers_map ga (Refusals n items) (λ cs. CallsDelivered ps n cs ⊎ Refusals n items cs) f.answerer g.answerer (λ cs w. inr w) k.answers;
 }
-
-answers_later : (n : ℕ) (cs ds : List AnswerCall) → AnsweredInOrder cs → AllByRecursion (λ c. c.number ≤ n) cs → AllByRecursion (λ c. c.number ≡ n + 1) ds → AnsweredInOrder (cs ++ ds)
-answers_later n [] [] h b e = tt
-answers_later n [] (d ∷ ds) h b e = (each_map (λ (c : AnswerCall). c.number ≡ n + 1) (λ (c : AnswerCall). d.number ≤ c.number) ds (λ c w. (let x = e.0 in omega arith)) e.1, answers_later n [] ds h b e.1)
-answers_later n (c ∷ cs) ds h b e = (
-  each_append (λ (x : AnswerCall). c.number ≤ x.number) cs ds h.0 (each_map (λ (x : AnswerCall). x.number ≡ n + 1) (λ (x : AnswerCall). c.number ≤ x.number) ds (λ x w. (let y = b.0 in omega arith)) e),
-  answers_later n cs ds h.1 b.1 e,
-)
 
 less_or : (a b : ℕ) → a ≤ b → (a < b) ⊎ (a ≡ b)
 less_or a b w = elim (leb_tells b a) [
@@ -103,23 +80,41 @@ module _ {I C D : Type 0} (gi : Intake.Ghosts I) (gc : Clock.Ghosts C) (gd : Der
   order_later f g [] run ti tc rf rg b h = tt
   order_later f g (r ∷ rs) run ti tc rf rg b h = (each_map (λ s. Precedes gi gc gd f r s) (λ s. Precedes gi gc gd g r s) rs (λ s w. precedes_later f g r s run ti tc rf rg b.0 w) h.0, order_later f g rs run ti tc rf rg b.1 h.1)
 
-  -- the parts of transaction n of a run, whichever transaction that is
-  abbrev pub PartsAre : Outside I C D → ℕ → List Part → Type 0
-  PartsAre f n ps = (t : Txn) → IsTransaction gi gc f t → t.number ≡ n → gd.parts f.plan t ≡ ps
+  -- the parts of transaction n of a run and how many items it has, whichever transaction that is
+  abbrev pub PartsAre : Outside I C D → (n items : ℕ) → List Part → Type 0
+  PartsAre f n items ps = (t : Txn) → IsTransaction gi gc f t → t.number ≡ n → (gd.parts f.plan t ≡ ps) × (length t.items.list ≡ items)
 
-  turn_here : (f : Outside I C D) (n : ℕ) (ps : List Part) (r : Record) (lo hi : ℕ) (rs : List Record) → PartsAre f n ps → r.txn ≡ n → r.part ≤ lo → RecordsInTurn n lo hi rs → AllByRecursion (λ s. s.part ≡ r.part → StandsBefore r.leaf s.leaf (leaves (tree_of ps r.part))) rs → AllByRecursion (λ s. Precedes gi gc gd f r s) rs
-  turn_here f n ps r lo hi [] are e w h k = tt
-  turn_here f n ps r lo hi (s ∷ rs) are e w h k = (
+  as_later : (f g : Outside I C D) (n : ℕ) (cs : List AnswerCall) → SameRun gi gc f g → IsTrue (gi.tells g.intake) → IsTrue (gc.tells g.clock) → ReadForEach gc f → ReadForEach gc g → n ≤ f.taken → AnsweredAs gi gc gd f n cs → AnsweredAs gi gc gd g n cs
+  as_later f g n cs run ti tc rf rg w h = λ t is e. subst (λ x. CallsDelivered (gd.parts x t) n cs ⊎ Refusals n (length t.items.list) cs) (sym run.plan) (h t (taken_before f g t run ti tc rf rg (subst (λ j. j ≤ f.taken) (sym e) w) is) e)
+
+  answers_later : (f g : Outside I C D) (n : ℕ) (cs : List AnswerCall) → SameRun gi gc f g → IsTrue (gi.tells g.intake) → IsTrue (gc.tells g.clock) → ReadForEach gc f → ReadForEach gc g → n ≤ f.taken → AnsweredInOrder gi gc gd f n cs → AnsweredInOrder gi gc gd g n cs
+  answers_later f g zero cs run ti tc rf rg w h = h
+  answers_later f g (suc n) cs run ti tc rf rg w h = (h.0, (h.1.0, (h.1.1.0, (answers_later f g n h.0 run ti tc rf rg (omega arith) h.1.1.1.0, as_later f g (suc n) h.1.0 run ti tc rf rg w h.1.1.1.1))))
+
+  as_here : (f : Outside I C D) (n items : ℕ) (ps : List Part) (cs : List AnswerCall) → PartsAre f n items ps → CallsDelivered ps n cs ⊎ Refusals n items cs → AnsweredAs gi gc gd f n cs
+  as_here f n items ps cs are (inl h) = λ t is e. inl (subst (λ xs. CallsDelivered xs n cs) (sym (are t is e).0) h)
+  as_here f n items ps cs are (inr h) = λ t is e. inr (subst (λ i. Refusals n i cs) (sym (are t is e).1) h)
+
+  -- the answers of one turn come behind those before
+  answers_more : (f g : Outside I C D) (n items : ℕ) (ps : List Part) (xs zs : List AnswerCall) → SameRun gi gc f g → IsTrue (gi.tells g.intake) → IsTrue (gc.tells g.clock) → ReadForEach gc f → ReadForEach gc g → n ≡ f.taken + 1 → g.taken ≡ f.taken + 1 → PartsAre g n items ps → AnsweredInOrder gi gc gd f f.taken xs → (cs : List AnswerCall) × ((zs ≡ xs ++ cs) × (CallsDelivered ps n cs ⊎ Refusals n items cs)) → AnsweredInOrder gi gc gd g g.taken zs
+  answers_more f g n items ps xs zs run ti tc rf rg en et are h k =
+      let here = subst (λ j. AnsweredAs gi gc gd g j k.0) (let z : n ≡ suc f.taken = omega arith in z) (as_here g n items ps k.0 are k.1.1) in
+      let all : AnsweredInOrder gi gc gd g (suc f.taken) zs = (xs, (k.0, (k.1.0, (answers_later f g f.taken xs run ti tc rf rg (omega arith) h, here)))) in
+      subst (λ j. AnsweredInOrder gi gc gd g j zs) (let z : suc f.taken ≡ g.taken = omega arith in z) all
+
+  turn_here : (f : Outside I C D) (n items : ℕ) (ps : List Part) (r : Record) (lo hi : ℕ) (rs : List Record) → PartsAre f n items ps → r.txn ≡ n → r.part ≤ lo → RecordsInTurn n lo hi rs → AllByRecursion (λ s. s.part ≡ r.part → StandsBefore r.leaf s.leaf (leaves (tree_of ps r.part))) rs → AllByRecursion (λ s. Precedes gi gc gd f r s) rs
+  turn_here f n items ps r lo hi [] are e w h k = tt
+  turn_here f n items ps r lo hi (s ∷ rs) are e w h k = (
     elim (less_or r.part s.part (let a = h.1.0 in omega arith)) [
       | inl q ↦ inr (e ∙ sym h.0, inl q)
-      | inr q ↦ inr (e ∙ sym h.0, inr (q, (λ t is m. subst (λ xs. StandsBefore r.leaf s.leaf (leaves (tree_of xs r.part))) (sym (are t is (m ∙ e))) (k.0 (sym q)))))
+      | inr q ↦ inr (e ∙ sym h.0, inr (q, (λ t is m. subst (λ xs. StandsBefore r.leaf s.leaf (leaves (tree_of xs r.part))) (sym (are t is (m ∙ e)).0) (k.0 (sym q)))))
     ],
-    turn_here f n ps r s.part hi rs are e (let a = h.1.0 in omega arith) h.1.1.1 k.1,
+    turn_here f n items ps r s.part hi rs are e (let a = h.1.0 in omega arith) h.1.1.1 k.1,
   )
 
-  turn_order : (f : Outside I C D) (n : ℕ) (ps : List Part) (lo hi : ℕ) (rs : List Record) → PartsAre f n ps → RecordsInTurn n lo hi rs → LeavesInTurn ps rs → InInputOrder gi gc gd f rs
-  turn_order f n ps lo hi [] are h k = tt
-  turn_order f n ps lo hi (r ∷ rs) are h k = (turn_here f n ps r r.part hi rs are h.0 (omega arith) h.1.1.1 k.0, turn_order f n ps r.part hi rs are h.1.1.1 k.1)
+  turn_order : (f : Outside I C D) (n items : ℕ) (ps : List Part) (lo hi : ℕ) (rs : List Record) → PartsAre f n items ps → RecordsInTurn n lo hi rs → LeavesInTurn ps rs → InInputOrder gi gc gd f rs
+  turn_order f n items ps lo hi [] are h k = tt
+  turn_order f n items ps lo hi (r ∷ rs) are h k = (turn_here f n items ps r r.part hi rs are h.0 (omega arith) h.1.1.1 k.0, turn_order f n items ps r.part hi rs are h.1.1.1 k.1)
 
   order_append : (f : Outside I C D) (n : ℕ) (xs ys : List Record) → InInputOrder gi gc gd f xs → AllByRecursion (λ r. r.txn ≤ n) xs → AllByRecursion (λ r. r.txn ≡ n + 1) ys → InInputOrder gi gc gd f ys → InInputOrder gi gc gd f (xs ++ ys)
   order_append f n [] ys h b e k = k
@@ -129,59 +124,58 @@ module _ {I C D : Type 0} (gi : Intake.Ghosts I) (gc : Clock.Ghosts C) (gd : Der
   )
 
   -- the records of one turn come behind those before
-  put_later : (f g : Outside I C D) (n hi : ℕ) (ps : List Part) (xs zs : List Record) → SameRun gi gc f g → IsTrue (gi.tells g.intake) → IsTrue (gc.tells g.clock) → ReadForEach gc f → ReadForEach gc g → n ≡ f.taken + 1 → g.taken ≡ f.taken + 1 → PartsAre g n ps → PutSoFar gi gc gd f xs → (rs : List Record) × ((zs ≡ xs ++ rs) × PutInTurn ps n 0 hi rs) → PutSoFar gi gc gd g zs
-  put_later f g n hi ps xs zs run ti tc rf rg en et are h k =
+  put_later : (f g : Outside I C D) (n items hi : ℕ) (ps : List Part) (xs zs : List Record) → SameRun gi gc f g → IsTrue (gi.tells g.intake) → IsTrue (gc.tells g.clock) → ReadForEach gc f → ReadForEach gc g → n ≡ f.taken + 1 → g.taken ≡ f.taken + 1 → PartsAre g n items ps → PutSoFar gi gc gd f xs → (rs : List Record) × ((zs ≡ xs ++ rs) × PutInTurn ps n 0 hi rs) → PutSoFar gi gc gd g zs
+  put_later f g n items hi ps xs zs run ti tc rf rg en et are h k =
       let own : AllByRecursion (λ (r : Record). r.txn ≡ f.taken + 1) k.0 = each_map (λ (r : Record). r.txn ≡ n) (λ (r : Record). r.txn ≡ f.taken + 1) k.0 (λ r w. w ∙ en) (all_of n 0 hi k.0 k.1.1.0) in
       subst (λ ys. PutSoFar gi gc gd g ys) (sym k.1.0) (
-        order_append g f.taken xs k.0 (order_later f g xs run ti tc rf rg h.1 h.0) h.1 own (turn_order g n ps 0 hi k.0 are k.1.1.0 k.1.1.1),
+        order_append g f.taken xs k.0 (order_later f g xs run ti tc rf rg h.1 h.0) h.1 own (turn_order g n items ps 0 hi k.0 are k.1.1.0 k.1.1.1),
         each_append (λ (r : Record). r.txn ≤ g.taken) xs k.0 (each_map (λ (r : Record). r.txn ≤ f.taken) (λ (r : Record). r.txn ≤ g.taken) xs (λ r w. omega arith) h.1) (each_map (λ (r : Record). r.txn ≡ f.taken + 1) (λ (r : Record). r.txn ≤ g.taken) k.0 (λ r w. omega arith) own),
       )
 
   put_same : (f g : Outside I C D) (xs : List Record) → SameRun gi gc f g → IsTrue (gi.tells g.intake) → IsTrue (gc.tells g.clock) → ReadForEach gc f → ReadForEach gc g → f.taken ≤ g.taken → PutSoFar gi gc gd f xs → PutSoFar gi gc gd g xs
   put_same f g xs run ti tc rf rg w h = (order_later f g xs run ti tc rf rg h.1 h.0, each_map (λ (r : Record). r.txn ≤ f.taken) (λ (r : Record). r.txn ≤ g.taken) xs (λ r v. omega arith) h.1)
 
+  same_items : (m : Outside I C D) (t u : Txn) → IsTransaction gi gc m t → IsTransaction gi gc m u → u.number ≡ t.number → u.items.list ≡ t.items.list
+  same_items m t u h k e = some_same u.items.list t.items.list (slice_get (gi.batches m.intake) (gi.given m.intake - m.taken + (t.number - 1))) (ap (λ j. slice_get (gi.batches m.intake) (gi.given m.intake - m.taken + (j - 1))) (sym e) ∙ k.batch) h.batch
+
   -- the parts of the transaction that was taken last are those of each of its number
   pub parts_are : (m e : Outside I C D) (plan : D) (t : Txn) → SameRun gi gc m e → ReadForEach gc m → ReadForEach gc e → m.plan ≡ plan → ReadsItems gd plan → m.taken < 2 ^ 56 → t.number ≡ m.taken
-      → (IsTrue (gi.tells m.intake) → IsTrue (gc.tells m.clock) → gc.made m.clock < last_count → IsTransaction gi gc m t) → IsTrue (gi.tells e.intake) → IsTrue (gc.tells e.clock) → PartsAre e t.number (gd.parts plan t)
+      → (IsTrue (gi.tells m.intake) → IsTrue (gc.tells m.clock) → gc.made m.clock < last_count → IsTransaction gi gc m t) → IsTrue (gi.tells e.intake) → IsTrue (gc.tells e.clock) → PartsAre e t.number (length t.items.list) (gd.parts plan t)
   parts_are m e plan t run rm re over reads few number is ti tc = λ u iu nu.
       let b = taken_before m e u run ti tc rm re (omega arith) iu in
       let d = derived_by gi gc gd m plan t.number t (gd.parts plan t) over reads refl is refl in
-      let made : gc.made m.clock < last_count = (let x = rm (run.clock_told tc) in omega arith) in
-      ap (λ p. gd.parts p u) run.plan ∙ sym (d (run.told ti) (run.clock_told tc) made u b nu)
+      let made : gc.made m.clock < last_count = (let x = rm (run.clock_told tc) in omega arith) in (
+        ap (λ p. gd.parts p u) run.plan ∙ sym (d (run.told ti) (run.clock_told tc) made u b nu),
+        ap length (same_items m t u (is (run.told ti) (run.clock_told tc) made) b nu),
+      )
 
 module _ {I K A C D : Type 0} (gi : Intake.Ghosts I) (gk : Sink.Ghosts K) (ga : Answerer.Ghosts A) (gc : Clock.Ghosts C) (gd : Derive.Ghosts D) where
   -- a transaction was taken and delivered
-  pub turn_ordered : (d m e : FloorView I K A C D) (n : ℕ) (ps : List Part) → NothingSettled d m → AddsInTurn gk ga n ps m e → SameRun gi gc d.outside e.outside → ReadForEach gc d.outside → ReadForEach gc e.outside → n ≡ d.outside.taken + 1 → e.outside.taken ≡ d.outside.taken + 1
-      → (IsTrue (gi.tells e.outside.intake) → IsTrue (gc.tells e.outside.clock) → PartsAre gi gc gd e.outside n ps) → e.ledger.policies ≡ gd.policies e.outside.plan → OrderedSoFar gi gk ga gc gd d → OrderedSoFar gi gk ga gc gd e
-  turn_ordered d m e n ps none adds run rd re en et are pol h =
+  pub turn_ordered : (d m e : FloorView I K A C D) (n items : ℕ) (ps : List Part) → NothingSettled d m → AddsInTurn gk ga n items ps m e → SameRun gi gc d.outside e.outside → ReadForEach gc d.outside → ReadForEach gc e.outside → n ≡ d.outside.taken + 1 → e.outside.taken ≡ d.outside.taken + 1
+      → (IsTrue (gi.tells e.outside.intake) → IsTrue (gc.tells e.outside.clock) → PartsAre gi gc gd e.outside n items ps) → e.ledger.policies ≡ gd.policies e.outside.plan → OrderedSoFar gi gk ga gc gd d → OrderedSoFar gi gk ga gc gd e
+  turn_ordered d m e n items ps none adds run rd re en et are pol h =
       let plan : gd.policies e.outside.plan ≡ [] = ap gd.policies run.plan ∙ h.plan in
       let sinks = subst (λ ks. SinksAdd gk (PutInTurn ps n 0 (length ps)) ks e.sinks) none.sinks adds.sinks in
-      let answers = subst (λ a. AnswererAdds ga (λ cs. AllByRecursion (λ c. c.number ≡ n) cs) a e.answerer) none.answerer adds.answers in
+      let answers = subst (λ a. AnswererAdds ga (λ cs. CallsDelivered ps n cs ⊎ Refusals n items cs) a e.answerer) none.answerer adds.answers in
       record {
         plan = plan;
         unheld = pol ∙ plan;
-        accepted = λ ti tc k x w t. (let s = sinks.1 k x in let many = sinks.0 in put_later gi gc gd d.outside e.outside n (length ps) ps (gk.accepted (get_or d.sinks k x)) (gk.accepted (get_or e.sinks k x)) run ti tc rd re en et (are ti tc) (h.accepted (run.told ti) (run.clock_told tc) k x (omega arith) (s.told t)) (s.accepted t));
-        refused = λ ti tc k x w t. (let s = sinks.1 k x in let many = sinks.0 in put_later gi gc gd d.outside e.outside n (length ps) ps (gk.refused (get_or d.sinks k x)) (gk.refused (get_or e.sinks k x)) run ti tc rd re en et (are ti tc) (h.refused (run.told ti) (run.clock_told tc) k x (omega arith) (s.told t)) (s.refused t));
-        answers = λ t. (let c = answers.calls t in let own = each_map (λ (x : AnswerCall). x.number ≡ n) (λ (x : AnswerCall). x.number ≡ d.outside.taken + 1) c.0 (λ x w. w ∙ en) c.1.1 in
-            subst (λ xs. AnsweredInOrder xs) (sym c.1.0) (answers_later d.outside.taken (ga.calls d.answerer) c.0 (h.answers (answers.told t)) (h.answered (answers.told t)) own));
-        answered = λ t. (let c = answers.calls t in
-            subst (λ xs. AllByRecursion (λ (x : AnswerCall). x.number ≤ e.outside.taken) xs) (sym c.1.0)
-            (each_append (λ (x : AnswerCall). x.number ≤ e.outside.taken) (ga.calls d.answerer) c.0 (each_map (λ (x : AnswerCall). x.number ≤ d.outside.taken) (λ (x : AnswerCall). x.number ≤ e.outside.taken) (ga.calls d.answerer) (λ x w. omega arith) (h.answered (answers.told t)))
-            (each_map (λ (x : AnswerCall). x.number ≡ n) (λ (x : AnswerCall). x.number ≤ e.outside.taken) c.0 (λ x w. omega arith) c.1.1)));
+        accepted = λ ti tc k x w t. (let s = sinks.1 k x in let many = sinks.0 in put_later gi gc gd d.outside e.outside n items (length ps) ps (gk.accepted (get_or d.sinks k x)) (gk.accepted (get_or e.sinks k x)) run ti tc rd re en et (are ti tc) (h.accepted (run.told ti) (run.clock_told tc) k x (omega arith) (s.told t)) (s.accepted t));
+        refused = λ ti tc k x w t. (let s = sinks.1 k x in let many = sinks.0 in put_later gi gc gd d.outside e.outside n items (length ps) ps (gk.refused (get_or d.sinks k x)) (gk.refused (get_or e.sinks k x)) run ti tc rd re en et (are ti tc) (h.refused (run.told ti) (run.clock_told tc) k x (omega arith) (s.told t)) (s.refused t));
+        answers = λ ti tc t. answers_more gi gc gd d.outside e.outside n items ps (ga.calls d.answerer) (ga.calls e.answerer) run ti tc rd re en et (are ti tc) (h.answers (run.told ti) (run.clock_told tc) (answers.told t)) (answers.calls t);
       }
 
   -- nothing was put or answered
-  pub quiet_ordered : (d e : FloorView I K A C D) → NothingSettled d e → SameRun gi gc d.outside e.outside → ReadForEach gc d.outside → ReadForEach gc e.outside → d.outside.taken ≤ e.outside.taken → e.ledger.policies ≡ gd.policies e.outside.plan → OrderedSoFar gi gk ga gc gd d → OrderedSoFar gi gk ga gc gd e
+  pub quiet_ordered : (d e : FloorView I K A C D) → NothingSettled d e → SameRun gi gc d.outside e.outside → ReadForEach gc d.outside → ReadForEach gc e.outside → e.outside.taken ≡ d.outside.taken → e.ledger.policies ≡ gd.policies e.outside.plan → OrderedSoFar gi gk ga gc gd d → OrderedSoFar gi gk ga gc gd e
   quiet_ordered d e none run rd re w pol h =
       let plan : gd.policies e.outside.plan ≡ [] = ap gd.policies run.plan ∙ h.plan in
       record {
         plan = plan;
         unheld = pol ∙ plan;
         accepted = λ ti tc k x v t. (let told : IsTrue (gk.tells (get_or d.sinks k x)) = subst (λ ks. IsTrue (gk.tells (get_or ks k x))) none.sinks t in
-            subst (λ ks. PutSoFar gi gc gd e.outside (gk.accepted (get_or ks k x))) (sym none.sinks) (put_same gi gc gd d.outside e.outside (gk.accepted (get_or d.sinks k x)) run ti tc rd re w (h.accepted (run.told ti) (run.clock_told tc) k x (subst (λ ks. k < length ks) none.sinks v) told)));
+            subst (λ ks. PutSoFar gi gc gd e.outside (gk.accepted (get_or ks k x))) (sym none.sinks) (put_same gi gc gd d.outside e.outside (gk.accepted (get_or d.sinks k x)) run ti tc rd re (omega arith) (h.accepted (run.told ti) (run.clock_told tc) k x (subst (λ ks. k < length ks) none.sinks v) told)));
         refused = λ ti tc k x v t. (let told : IsTrue (gk.tells (get_or d.sinks k x)) = subst (λ ks. IsTrue (gk.tells (get_or ks k x))) none.sinks t in
-            subst (λ ks. PutSoFar gi gc gd e.outside (gk.refused (get_or ks k x))) (sym none.sinks) (put_same gi gc gd d.outside e.outside (gk.refused (get_or d.sinks k x)) run ti tc rd re w (h.refused (run.told ti) (run.clock_told tc) k x (subst (λ ks. k < length ks) none.sinks v) told)));
-        answers = λ t. subst (λ a. AnsweredInOrder (ga.calls a)) (sym none.answerer) (h.answers (subst (λ a. IsTrue (ga.tells a)) none.answerer t));
-        answered = λ t. subst (λ a. AllByRecursion (λ (x : AnswerCall). x.number ≤ e.outside.taken) (ga.calls a)) (sym none.answerer)
-            (each_map (λ (x : AnswerCall). x.number ≤ d.outside.taken) (λ (x : AnswerCall). x.number ≤ e.outside.taken) (ga.calls d.answerer) (λ x v. omega arith) (h.answered (subst (λ a. IsTrue (ga.tells a)) none.answerer t)));
+            subst (λ ks. PutSoFar gi gc gd e.outside (gk.refused (get_or ks k x))) (sym none.sinks) (put_same gi gc gd d.outside e.outside (gk.refused (get_or d.sinks k x)) run ti tc rd re (omega arith) (h.refused (run.told ti) (run.clock_told tc) k x (subst (λ ks. k < length ks) none.sinks v) told)));
+        answers = λ ti tc t. subst (λ a. AnsweredInOrder gi gc gd e.outside e.outside.taken (ga.calls a)) (sym none.answerer) (subst (λ j. AnsweredInOrder gi gc gd e.outside j (ga.calls d.answerer)) (sym w)
+            (answers_later gi gc gd d.outside e.outside d.outside.taken (ga.calls d.answerer) run ti tc rd re (omega arith) (h.answers (run.told ti) (run.clock_told tc) (subst (λ a. IsTrue (ga.tells a)) none.answerer t))));
       }

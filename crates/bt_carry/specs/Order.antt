@@ -1,5 +1,5 @@
 -- The order of what a run leaves at its sinks and its answerer, where its plan has no holds.
-use Rattle.std.specs.Prelude.{◌≡◌, ℕ, ◌<◌, ◌≤◌, ◌⊎◌, List, [], ◌∷◌, length, get_or, IsTrue}
+use Rattle.std.specs.Prelude.{◌≡◌, ℕ, zero, suc, ◌<◌, ◌≤◌, ◌⊎◌, List, [], ◌∷◌, ◌++◌, length, get_or, IsTrue}
 use Rattle.std.specs.List.{AllByRecursion}
 use Rattle.bt_demand.specs.Parts.{Part}
 use Rattle.bt_demand.specs.WellFormed.{leaves}
@@ -13,7 +13,7 @@ use Rattle.bt_ports.specs.declared.parts.AnswerCall.{AnswerCall}
 use Rattle.bt_ports.specs.declared.parts.Record.{Record}
 use Rattle.bt_ports.specs.declared.parts.Txn.{Txn}
 use Rattle.bt_sound.specs.Transactions.{IsTransaction}
-use Rattle.bt_sound.specs.Turns.{AnswererAdds, PutInTurn, SinksAdd, StandsBefore}
+use Rattle.bt_sound.specs.Turns.{AnswererAdds, CallsDelivered, PutInTurn, Refusals, SinksAdd, StandsBefore}
 use Rattle.bt_sound.specs.View.{FloorView, Outside}
 
 -- leaf l stands before leaf m in the demand that the plan derives for part p of transaction n of a run
@@ -30,16 +30,22 @@ abbrev pub InInputOrder : {I C D : Type 0} → Intake.Ghosts I → Clock.Ghosts 
 InInputOrder gi gc gd f [] = Unit {0}
 InInputOrder gi gc gd f (r ∷ rs) = AllByRecursion (λ s. Precedes gi gc gd f r s) rs × InInputOrder gi gc gd f rs
 
--- the answers are given by transaction, in the order in which these were taken
-abbrev pub AnsweredInOrder : List AnswerCall → Type 0
-AnsweredInOrder [] = Unit {0}
-AnsweredInOrder (c ∷ cs) = AllByRecursion (λ d. c.number ≤ d.number) cs × AnsweredInOrder cs
+-- Calls for transaction n of a run: first those for items that no part comes from or whose parts are settled by themselves, in
+-- order, and then part by part those for items that the part comes from, by each part in order of the items; or where there was
+-- no memory for its parts a refusal of each item, in order.
+abbrev pub AnsweredAs : {I C D : Type 0} → Intake.Ghosts I → Clock.Ghosts C → Derive.Ghosts D → Outside I C D → ℕ → List AnswerCall → Type 0
+AnsweredAs gi gc gd f n cs = (t : Txn) → IsTransaction gi gc f t → t.number ≡ n → CallsDelivered (gd.parts f.plan t) n cs ⊎ Refusals n (length t.items.list) cs
 
--- so are the records of each sink, accepted and refused, and all answers
+-- the calls for transactions 1 to n, one transaction after another
+abbrev pub AnsweredInOrder : {I C D : Type 0} → Intake.Ghosts I → Clock.Ghosts C → Derive.Ghosts D → Outside I C D → ℕ → List AnswerCall → Type 0
+AnsweredInOrder gi gc gd f zero cs = cs ≡ []
+AnsweredInOrder gi gc gd f (suc n) cs = (before : List AnswerCall) × ((here : List AnswerCall) × ((cs ≡ before ++ here) × (AnsweredInOrder gi gc gd f n before × AnsweredAs gi gc gd f (suc n) here)))
+
+-- the records of each sink, accepted and refused, are in input order, and the answers by transaction
 pub record AllOrdered {I K A C D : Type 0} (gi : Intake.Ghosts I) (gk : Sink.Ghosts K) (ga : Answerer.Ghosts A) (gc : Clock.Ghosts C) (gd : Derive.Ghosts D) (f : Outside I C D) (ks : List K) (a : A) : Type 0 where
   pub accepted : (k : ℕ) (d : K) → k < length ks → InInputOrder gi gc gd f (gk.accepted (get_or ks k d))
   pub refused : (k : ℕ) (d : K) → k < length ks → InInputOrder gi gc gd f (gk.refused (get_or ks k d))
-  pub answers : AnsweredInOrder (ga.calls a)
+  pub answers : AnsweredInOrder gi gc gd f f.taken (ga.calls a)
 
 -- records in input order, of transactions that were taken
 abbrev pub PutSoFar : {I C D : Type 0} → Intake.Ghosts I → Clock.Ghosts C → Derive.Ghosts D → Outside I C D → List Record → Type 0
@@ -52,10 +58,9 @@ pub record OrderedSoFar {I K A C D : Type 0} (gi : Intake.Ghosts I) (gk : Sink.G
   pub unheld : f.ledger.policies ≡ []
   pub accepted : IsTrue (gi.tells f.outside.intake) → IsTrue (gc.tells f.outside.clock) → (k : ℕ) (d : K) → k < length f.sinks → IsTrue (gk.tells (get_or f.sinks k d)) → PutSoFar gi gc gd f.outside (gk.accepted (get_or f.sinks k d))
   pub refused : IsTrue (gi.tells f.outside.intake) → IsTrue (gc.tells f.outside.clock) → (k : ℕ) (d : K) → k < length f.sinks → IsTrue (gk.tells (get_or f.sinks k d)) → PutSoFar gi gc gd f.outside (gk.refused (get_or f.sinks k d))
-  pub answers : IsTrue (ga.tells f.answerer) → AnsweredInOrder (ga.calls f.answerer)
-  pub answered : IsTrue (ga.tells f.answerer) → AllByRecursion (λ c. c.number ≤ f.outside.taken) (ga.calls f.answerer)
+  pub answers : IsTrue (gi.tells f.outside.intake) → IsTrue (gc.tells f.outside.clock) → IsTrue (ga.tells f.answerer) → AnsweredInOrder gi gc gd f.outside f.outside.taken (ga.calls f.answerer)
 
--- what delivering a transaction with these parts adds: its own records, by part and by leaf, and answers for it alone
-pub record AddsInTurn {I K A C D : Type 0} (gk : Sink.Ghosts K) (ga : Answerer.Ghosts A) (n : ℕ) (ps : List Part) (f g : FloorView I K A C D) : Type 0 where
+-- what delivering a transaction with these parts and so many items adds: its own records, by part and by leaf, and its answers
+pub record AddsInTurn {I K A C D : Type 0} (gk : Sink.Ghosts K) (ga : Answerer.Ghosts A) (n items : ℕ) (ps : List Part) (f g : FloorView I K A C D) : Type 0 where
   pub sinks : SinksAdd gk (PutInTurn ps n 0 (length ps)) f.sinks g.sinks
-  pub answers : AnswererAdds ga (λ cs. AllByRecursion (λ c. c.number ≡ n) cs) f.answerer g.answerer
+  pub answers : AnswererAdds ga (λ cs. CallsDelivered ps n cs ⊎ Refusals n items cs) f.answerer g.answerer

@@ -34,7 +34,7 @@ fn deliver<I: Intake, K: Sink, A: Answerer, C: Clock, D: Derive>(
     ensures taken { desk.new.floor.outside.taken ≡ desk.old.floor.outside.taken }
     ensures intake { desk.new.floor.outside.intake ≡ desk.old.floor.outside.intake }
     ensures stands { IsStanding ⟦<I as Intake>⟧ ⟦<K as Sink>⟧ ⟦<A as Answerer>⟧ ⟦<C as Clock>⟧ ⟦<D as Derive>⟧ desk.new }
-    ensures adds { desk.old.floor.ledger.policies ≡ [] → AddsInTurn ⟦<K as Sink>⟧ ⟦<A as Answerer>⟧ txn.now.number (D.parts plan.now txn.now) desk.old.floor desk.new.floor }
+    ensures adds { desk.old.floor.ledger.policies ≡ [] → AddsInTurn ⟦<K as Sink>⟧ ⟦<A as Answerer>⟧ txn.now.number (length txn.now.items.list) (D.parts plan.now txn.now) desk.old.floor desk.new.floor }
 {
     let routes = plan.derive(txn);
     desk.deliver(0, routes);
@@ -70,8 +70,8 @@ fn turn<I: Intake, K: Sink, A: Answerer, C: Clock, D: Derive>(
 ///
 /// Where intake, clock, sinks and answerer tell, the account of the run holds: each transaction that was taken is closed,
 /// each of its items has one answer, by the records of its parts, and the records are those of the asked leaves. Where the
-/// plan has no holds, the records of each sink stay in input order, and the answers in the order of the transactions. It
-/// takes memory only in the intake and for the parts of a transaction; where there is none for these, that transaction's
+/// plan has no holds, the records of each sink stay in input order, and the answers in that of the transactions and their
+/// parts. It takes memory only in the intake and for the parts of a transaction; where there is none for these, that transaction's
 /// items are refused. How long a read or a write waits isn't promised.
 pub fn carry<I: Intake, K: Sink, A: Answerer, C: Clock, D: Derive>(
     plan: &D,

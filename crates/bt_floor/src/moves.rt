@@ -97,6 +97,7 @@ impl<I: Intake, K: Sink, A: Answerer, C: Clock, D: Derive> Floor<I, K, A, C, D> 
         ensures sinks { self.new.sinks ≡ self.old.sinks }
         ensures adds { AnswererAdds ⟦<A as Answerer>⟧ (CallsFor (number_in (slot_at self.old.ledger slot)) item) self.old.answerer self.new.answerer }
         ensures dues { (i : ℕ) → IsDue (open_in (slot_at self.new.ledger slot)) i → IsDue (open_in (slot_at self.old.ledger slot)) i }
+        ensures done { IsDue (open_in (slot_at self.new.ledger slot)) item → ⊥ }
     {
         let number = self.ledger.number(slot);
         let verdict = verdict_on(&self.ledger, slot, item);

@@ -1,6 +1,5 @@
 -- The end of a run, from what stands of its desk.
 use Rattle.std.proofs.Common.{◌≡◌, ℕ, ◌<◌, ◌≤◌, List, [], length, get_or, sym, ap, ◌∙◌, subst, Option, IsSome, IsTrue}
-use Rattle.std.specs.List.{AllByRecursion}
 use Rattle.bt_carry.specs.Account.{Account, AllTell}
 use Rattle.bt_carry.specs.Calls.{EndedWith, ReadForEach}
 use Rattle.bt_carry.specs.Order.{AllOrdered, AnsweredInOrder, OrderedSoFar, PutSoFar}
@@ -11,7 +10,6 @@ use Rattle.bt_ports.specs.declared.outside.Answerer as Answerer
 use Rattle.bt_ports.specs.declared.outside.Clock as Clock
 use Rattle.bt_ports.specs.declared.outside.Intake as Intake
 use Rattle.bt_ports.specs.declared.outside.Sink as Sink
-use Rattle.bt_ports.specs.declared.parts.AnswerCall.{AnswerCall}
 use Rattle.bt_runner.specs.Ran.{HasRun, beginning, ending_as}
 use Rattle.bt_runner.specs.declared.run.Ran.{Ran}
 use Rattle.bt_sound.specs.Course.{Course}
@@ -39,23 +37,22 @@ module _ {I K A C D : Type 0} (gi : Intake.Ghosts I) (gk : Sink.Ghosts K) (ga : 
   Orders o ks a = AllTell gi gk ga gc o ks a → AllOrdered gi gk ga gc gd o ks a
 
   -- nothing was put or answered yet
-  pub begins_ordered : (plan : D) (p : Parts I K A C) (f : FloorView I K A C D) → f.outside.plan ≡ plan → f.ledger.policies ≡ gd.policies plan → f.sinks ≡ p.sinks.list → f.answerer ≡ p.answerer → NothingPut gk p.sinks.list → NothingAnswered ga p.answerer → gd.policies plan ≡ [] → OrderedSoFar gi gk ga gc gd f
-  begins_ordered plan p f over pol s a put answered q = record {
+  pub begins_ordered : (plan : D) (p : Parts I K A C) (f : FloorView I K A C D) → f.outside.plan ≡ plan → f.ledger.policies ≡ gd.policies plan → f.sinks ≡ p.sinks.list → f.answerer ≡ p.answerer → f.outside.taken ≡ 0 → NothingPut gk p.sinks.list → NothingAnswered ga p.answerer → gd.policies plan ≡ [] → OrderedSoFar gi gk ga gc gd f
+  begins_ordered plan p f over pol s a none put answered q = record {
     plan = ap gd.policies over ∙ q;
     unheld = pol ∙ q;
     accepted = λ ti tc k d w t. (let e = subst (λ ks. k < length ks → IsTrue (gk.tells (get_or ks k d)) → (gk.accepted (get_or ks k d) ≡ []) × (gk.refused (get_or ks k d) ≡ [])) (sym s) (put d k) in
         subst (λ rs. PutSoFar gi gc gd f.outside rs) (sym (e w t).0) (tt, tt));
     refused = λ ti tc k d w t. (let e = subst (λ ks. k < length ks → IsTrue (gk.tells (get_or ks k d)) → (gk.accepted (get_or ks k d) ≡ []) × (gk.refused (get_or ks k d) ≡ [])) (sym s) (put d k) in
         subst (λ rs. PutSoFar gi gc gd f.outside rs) (sym (e w t).1) (tt, tt));
-    answers = λ t. (let e = subst (λ x. IsTrue (ga.tells x) → ga.calls x ≡ []) (sym a) answered in subst (λ cs. AnsweredInOrder cs) (sym (e t)) tt);
-    answered = λ t. (let e = subst (λ x. IsTrue (ga.tells x) → ga.calls x ≡ []) (sym a) answered in subst (λ cs. AllByRecursion (λ (c : AnswerCall). c.number ≤ f.outside.taken) cs) (sym (e t)) tt);
+    answers = λ ti tc t. (let e = subst (λ x. IsTrue (ga.tells x) → ga.calls x ≡ []) (sym a) answered in subst (λ j. AnsweredInOrder gi gc gd f.outside j (ga.calls f.answerer)) (sym none) (e t));
   }
 
   pub all_ordered : (f : FloorView I K A C D) → OrderedSoFar gi gk ga gc gd f → Orders f.outside f.sinks f.answerer
   all_ordered f h = λ tell. record {
     accepted = λ k d w. (h.accepted tell.intake tell.clock k d w (tell.sinks k d w)).0;
     refused = λ k d w. (h.refused tell.intake tell.clock k d w (tell.sinks k d w)).0;
-    answers = h.answers tell.answerer;
+    answers = h.answers tell.intake tell.clock tell.answerer;
   }
 
   -- a run is over where its desk stands so

@@ -28,7 +28,7 @@ ending_as plan r = record { plan = plan; intake = r.parts.intake; clock = r.part
 
 -- A run of a plan over these parts is over. It is the run of the intake's batches and of the clock's readings that were left;
 -- it ended as the intake did; the clock was read once for each transaction; and where all tell, its account holds. Where they
--- tell and the plan has no holds, the records of each sink are in input order, and the answers in order of the transactions.
+-- tell and the plan has no holds, the records of each sink are in input order, and the answers by transaction and part.
 pub record HasRun {I K A C D : Type 0} (gi : Intake.Ghosts I) (gk : Sink.Ghosts K) (ga : Answerer.Ghosts A) (gc : Clock.Ghosts C) (gd : Derive.Ghosts D) (plan : D) (p : Parts I K A C) (r : Ran I K A C) : Type 0 where
   pub ended : IsSome r.report.ending
   pub faults : EndedWith r.report.ending (gi.faults p.intake) (gi.faults r.parts.intake)

@@ -28,7 +28,7 @@ use Rattle.bt_ports.specs.declared.parts.Record.{Record}
 use Rattle.bt_sound.specs.Records.{PutAt}
 use Rattle.bt_sound.specs.Transactions.{given_open}
 use Rattle.bt_sound.specs.Answers.{RefusedAll}
-use Rattle.bt_sound.specs.Turns.{AtMostOne, LeavesInTurn, PutInTurn, Refusals, StandsBefore, RecordsInTurn, CallsInTurn, CallsDue, CallsFor, CallsAtOnce, CallsDelivered, SinkAdds, SinksAdd, AnswererAdds, SameFrom, OnlyPart, Turned, DeliveredInTurn}
+use Rattle.bt_sound.specs.Turns.{AtMostOne, LeavesInTurn, PutInTurn, Refusals, StandsBefore, RecordsInTurn, CallsInTurn, ItemsRise, NotBefore, CallsDue, CallsFor, CallsAtOnce, CallsDelivered, SinkAdds, SinksAdd, AnswererAdds, SameFrom, OnlyPart, Turned, DeliveredInTurn}
 use Rattle.bt_sound.specs.View.{FloorView}
 use Rattle.bt_sound.specs.declared.counts.Counts.{Counts}
 use Rattle.bt_sound.proofs.Leftmost.{live, live_stays, next_before, next_live}
@@ -287,23 +287,55 @@ due_from p i x y h d n = elim (leb_tells 1 (times i (from_of (parts_in x) p))) [
       )))
 ]
 
-calls_turn : (p : ℕ) (x y : Slot) (cs : List AnswerCall) → OnlyPart p x y → ((i : ℕ) → IsDue (open_in x) i → ⊥) → CallsDue (open_in y) cs → CallsInTurn (parts_in x) (number_in x) p (p + 1) cs
-calls_turn p x y [] h n d = tt
-calls_turn p x y (c ∷ cs) h n d = (d.0.0 ∙ h.same.number, (p, (omega arith, (omega arith, (due_from p c.item x y h d.0.1 (n c.item), calls_turn p x y cs h n d.1)))))
+calls_turn : (p i : ℕ) (x y : Slot) (cs : List AnswerCall) → OnlyPart p x y → ((j : ℕ) → IsDue (open_in x) j → ⊥) → AllByRecursion (λ c. (c.number ≡ number_in y) × IsDue (open_in y) c.item) cs → ItemsRise cs → AllByRecursion (λ c. i ≤ c.item) cs → CallsInTurn (parts_in x) (number_in x) p i (p + 1) cs
+calls_turn p i x y [] h n d r b = tt
+calls_turn p i x y (c ∷ cs) h n d r b = (
+  d.0.0 ∙ h.same.number,
+  (
+    p,
+    (
+      inr (refl, b.0),
+      (
+        omega arith,
+        (
+          due_from p c.item x y h d.0.1 (n c.item),
+          calls_turn p (c.item + 1) x y cs h n d.1 r.1 (each_map (λ (e : AnswerCall). c.item < e.item) (λ (e : AnswerCall). c.item + 1 ≤ e.item) cs (λ e w. omega arith) r.0),
+        ),
+      ),
+    ),
+  ),
+)
+
+each_from_zero : (cs : List AnswerCall) → AllByRecursion (λ c. 0 ≤ c.item) cs
+each_from_zero [] = tt
+each_from_zero (c ∷ cs) = (omega arith, each_from_zero cs)
 
 -- calls in turn
-calls_wider : (ps : List Part) (n a b c e : ℕ) (cs : List AnswerCall) → CallsInTurn ps n b c cs → a ≤ b → c ≤ e → CallsInTurn ps n a e cs
-calls_wider ps n a b c e [] h u v = tt
-calls_wider ps n a b c e (x ∷ xs) h u v = let k = h.1 in (h.0, (k.0, ((let w = k.1.0 in omega arith), ((let w = k.1.1.0 in omega arith), (k.1.1.1.0, calls_wider ps n k.0 k.0 c e xs k.1.1.1.1 (omega arith) v)))))
+not_before : (a i b j q k : ℕ) → NotBefore a i b j → NotBefore b j q k → NotBefore a i q k
+not_before a i b j q k (inl h) (inl w) = inl (omega arith)
+not_before a i b j q k (inl h) (inr w) = inl (let z = w.0 in omega arith)
+not_before a i b j q k (inr h) (inl w) = inl (let z = h.0 in omega arith)
+not_before a i b j q k (inr h) (inr w) = inr (h.0 ∙ w.0, (let y = h.1 in let z = w.1 in omega arith))
 
-calls_later : (ps : List Part) (n a b c : ℕ) (xs ys : List AnswerCall) → CallsInTurn ps n a b xs → CallsInTurn ps n b c ys → a ≤ b → b ≤ c → CallsInTurn ps n a c (xs ++ ys)
-calls_later ps n a b c [] ys h k u v = calls_wider ps n a b c c ys k u (omega arith)
-calls_later ps n a b c (x ∷ xs) ys h k u v = let j = h.1 in
-    (h.0, (j.0, (j.1.0, ((let w = j.1.1.0 in omega arith), (j.1.1.1.0, calls_later ps n j.0 b c xs ys j.1.1.1.1 k (let w = j.1.1.0 in omega arith) v)))))
+from_start : (a b : ℕ) → a ≤ b → NotBefore a 0 b 0
+from_start a b w = elim (leb_tells (a + 1) b) [
+  | inl i ↦ inl (let x = i.1 in omega arith)
+  | inr i ↦ inr ((let x = i.1 in omega arith), omega arith)
+]
 
-calls_from : (ps qs : List Part) (n lo hi : ℕ) (cs : List AnswerCall) → ((q : ℕ) → from_of qs q ≡ from_of ps q) → CallsInTurn qs n lo hi cs → CallsInTurn ps n lo hi cs
-calls_from ps qs n lo hi [] f h = tt
-calls_from ps qs n lo hi (c ∷ cs) f h = let k = h.1 in (h.0, (k.0, (k.1.0, (k.1.1.0, (subst (λ xs. 1 ≤ times c.item xs) (f k.0) k.1.1.1.0, calls_from ps qs n k.0 hi cs f k.1.1.1.1)))))
+calls_wider : (ps : List Part) (n a i b j c e : ℕ) (cs : List AnswerCall) → CallsInTurn ps n b j c cs → NotBefore a i b j → c ≤ e → CallsInTurn ps n a i e cs
+calls_wider ps n a i b j c e [] h u v = tt
+calls_wider ps n a i b j c e (x ∷ xs) h u v = let k = h.1 in
+    (h.0, (k.0, (not_before a i b j k.0 x.item u k.1.0, ((let w = k.1.1.0 in omega arith), (k.1.1.1.0, calls_wider ps n k.0 (x.item + 1) k.0 (x.item + 1) c e xs k.1.1.1.1 (inr (refl, omega arith)) v)))))
+
+calls_later : (ps : List Part) (n a i b c : ℕ) (xs ys : List AnswerCall) → CallsInTurn ps n a i b xs → CallsInTurn ps n b 0 c ys → NotBefore a i b 0 → b ≤ c → CallsInTurn ps n a i c (xs ++ ys)
+calls_later ps n a i b c [] ys h k u v = calls_wider ps n a i b 0 c c ys k u (omega arith)
+calls_later ps n a i b c (x ∷ xs) ys h k u v = let j = h.1 in
+    (h.0, (j.0, (j.1.0, ((let w = j.1.1.0 in omega arith), (j.1.1.1.0, calls_later ps n j.0 (x.item + 1) b c xs ys j.1.1.1.1 k (inl j.1.1.0) v)))))
+
+calls_from : (ps qs : List Part) (n lo i hi : ℕ) (cs : List AnswerCall) → ((q : ℕ) → from_of qs q ≡ from_of ps q) → CallsInTurn qs n lo i hi cs → CallsInTurn ps n lo i hi cs
+calls_from ps qs n lo i hi [] f h = tt
+calls_from ps qs n lo i hi (c ∷ cs) f h = let k = h.1 in (h.0, (k.0, (k.1.0, (k.1.1.0, (subst (λ xs. 1 ≤ times c.item xs) (f k.0) k.1.1.1.0, calls_from ps qs n k.0 (c.item + 1) hi cs f k.1.1.1.1)))))
 
 records_higher : (n a b c : ℕ) (rs : List Record) → RecordsInTurn n a b rs → b ≤ c → RecordsInTurn n a c rs
 records_higher n a b c [] h w = tt
@@ -313,7 +345,7 @@ records_higher n a b c (r ∷ rs) h w = (h.0, (h.1.0, ((let x = h.1.1.0 in omega
 pub turned_none : {I K A C D : Type 0} (gk : Sink.Ghosts K) (ga : Answerer.Ghosts A) (s lo hi : ℕ) (f : FloorView I K A C D) → Turned gk ga s lo hi f f
 turned_none gk ga s lo hi f = record {
   sinks = sinks_same gk (PutInTurn (parts_in (slot_at f.ledger s)) (number_in (slot_at f.ledger s)) lo hi) f.sinks (tt, tt);
-  answers = answers_same ga (CallsInTurn (parts_in (slot_at f.ledger s)) (number_in (slot_at f.ledger s)) lo hi) f.answerer tt;
+  answers = answers_same ga (CallsInTurn (parts_in (slot_at f.ledger s)) (number_in (slot_at f.ledger s)) lo 0 hi) f.answerer tt;
   same = λ _. record { number = refl; many = refl; from = λ q. refl; same_leaves = λ q. refl };
   policies = refl;
 }
@@ -325,7 +357,7 @@ pub turned_part : {I K A C D : Type 0} (gk : Sink.Ghosts K) (ga : Answerer.Ghost
 turned_part gk ga s p t f m g rest only sinks ea es calls same pol = record {
   sinks = subst (λ ks. SinksAdd gk (PutInTurn (parts_in (slot_at f.ledger s)) (number_in (slot_at f.ledger s)) p (p + 1)) f.sinks ks) (sym es)
       (sinks_map gk (Putting (parts_in (slot_at f.ledger s)) (number_in (slot_at f.ledger s)) p t) (PutInTurn (parts_in (slot_at f.ledger s)) (number_in (slot_at f.ledger s)) p (p + 1)) f.sinks m.sinks (λ rs h. h.0) sinks);
-  answers = answers_map ga (CallsDue (open_in (slot_at m.ledger s))) (CallsInTurn (parts_in (slot_at f.ledger s)) (number_in (slot_at f.ledger s)) p (p + 1)) f.answerer g.answerer (λ cs h. calls_turn p (slot_at f.ledger s) (slot_at m.ledger s) cs only rest.0 h)
+  answers = answers_map ga (CallsDue (open_in (slot_at m.ledger s))) (CallsInTurn (parts_in (slot_at f.ledger s)) (number_in (slot_at f.ledger s)) p 0 (p + 1)) f.answerer g.answerer (λ cs h. calls_turn p 0 (slot_at f.ledger s) (slot_at m.ledger s) cs only rest.0 h.0 h.1 (each_from_zero cs))
       (subst (λ a. AnswererAdds ga (CallsDue (open_in (slot_at m.ledger s))) a g.answerer) ea calls);
   same = λ e. (let x = same e in record { number = x.number ∙ only.same.number; many = x.many ∙ only.same.many; from = λ q. x.from q ∙ only.same.from q; same_leaves = λ q. x.same_leaves q ∙ only.same.same_leaves q });
   policies = pol;
@@ -341,8 +373,8 @@ turned_joins gk ga s a b c f g h u v e x y =
             records_later (number_in (slot_at f.ledger s)) a b c xs ys p.0 r u v,
             leaves_later (parts_in (slot_at f.ledger s)) (number_in (slot_at f.ledger s)) a b c xs ys p.0 r p.1 (leaves_from (parts_in (slot_at f.ledger s)) (parts_in (slot_at g.ledger s)) ys z.same_leaves q.1),
           ))) x.sinks y.sinks;
-      answers = answers_joins ga (CallsInTurn (parts_in (slot_at f.ledger s)) (number_in (slot_at f.ledger s)) a b) (CallsInTurn (parts_in (slot_at g.ledger s)) (number_in (slot_at g.ledger s)) b c) (CallsInTurn (parts_in (slot_at f.ledger s)) (number_in (slot_at f.ledger s)) a c) f.answerer g.answerer h.answerer
-          (λ xs ys p q. calls_later (parts_in (slot_at f.ledger s)) (number_in (slot_at f.ledger s)) a b c xs ys p (calls_from (parts_in (slot_at f.ledger s)) (parts_in (slot_at g.ledger s)) (number_in (slot_at f.ledger s)) b c ys z.from (subst (λ n. CallsInTurn (parts_in (slot_at g.ledger s)) n b c ys) z.number q)) u v) x.answers y.answers;
+      answers = answers_joins ga (CallsInTurn (parts_in (slot_at f.ledger s)) (number_in (slot_at f.ledger s)) a 0 b) (CallsInTurn (parts_in (slot_at g.ledger s)) (number_in (slot_at g.ledger s)) b 0 c) (CallsInTurn (parts_in (slot_at f.ledger s)) (number_in (slot_at f.ledger s)) a 0 c) f.answerer g.answerer h.answerer
+          (λ xs ys p q. calls_later (parts_in (slot_at f.ledger s)) (number_in (slot_at f.ledger s)) a 0 b c xs ys p (calls_from (parts_in (slot_at f.ledger s)) (parts_in (slot_at g.ledger s)) (number_in (slot_at f.ledger s)) b 0 c ys z.from (subst (λ n. CallsInTurn (parts_in (slot_at g.ledger s)) n b 0 c ys) z.number q)) (from_start a b u) v) x.answers y.answers;
       same = λ i. (let k = y.same i in record { number = k.number ∙ z.number; many = k.many ∙ z.many; from = λ q. k.from q ∙ z.from q; same_leaves = λ q. k.same_leaves q ∙ z.same_leaves q });
       policies = y.policies ∙ x.policies;
     }
@@ -350,7 +382,7 @@ turned_joins gk ga s a b c f g h u v e x y =
 pub turned_wider : {I K A C D : Type 0} (gk : Sink.Ghosts K) (ga : Answerer.Ghosts A) (s a b c : ℕ) (f g : FloorView I K A C D) → b ≤ c → Turned gk ga s a b f g → Turned gk ga s a c f g
 turned_wider gk ga s a b c f g w x = record {
   sinks = sinks_map gk (PutInTurn (parts_in (slot_at f.ledger s)) (number_in (slot_at f.ledger s)) a b) (PutInTurn (parts_in (slot_at f.ledger s)) (number_in (slot_at f.ledger s)) a c) f.sinks g.sinks (λ rs h. (records_higher (number_in (slot_at f.ledger s)) a b c rs h.0 w, h.1)) x.sinks;
-  answers = answers_map ga (CallsInTurn (parts_in (slot_at f.ledger s)) (number_in (slot_at f.ledger s)) a b) (CallsInTurn (parts_in (slot_at f.ledger s)) (number_in (slot_at f.ledger s)) a c) f.answerer g.answerer (λ cs h. calls_wider (parts_in (slot_at f.ledger s)) (number_in (slot_at f.ledger s)) a a b c cs h (omega arith) w) x.answers;
+  answers = answers_map ga (CallsInTurn (parts_in (slot_at f.ledger s)) (number_in (slot_at f.ledger s)) a 0 b) (CallsInTurn (parts_in (slot_at f.ledger s)) (number_in (slot_at f.ledger s)) a 0 c) f.answerer g.answerer (λ cs h. calls_wider (parts_in (slot_at f.ledger s)) (number_in (slot_at f.ledger s)) a 0 a 0 b c cs h (inr (refl, omega arith)) w) x.answers;
   same = x.same;
   policies = x.policies;
 }
@@ -373,14 +405,52 @@ due_before o item i w d = elim (eqb_tells i item) [
   | inr j ↦ ((let a = d.0 in let b = length-set o.answered item true in omega arith), sym (get_or-set_other o.answered item i true true j.1) ∙ d.1, d.2)
 ]
 
+-- which then isn't due any more
+pub due_gone : (o : Open) (item : ℕ) → item < length o.answered → IsDue (record o { answered = set o.answered item true }) item → ⊥
+due_gone o item w d = let z : true ≡ false = sym (get_or-set_same o.answered item true true w) ∙ d.1 in cc
+
+-- while what is due is answered: the items so far stand below all that is still due
+abbrev pub DueSoFar : Open → Open → List AnswerCall → Type 0
+DueSoFar o now cs = CallsDue o cs × AllByRecursion (λ c. (j : ℕ) → IsDue now j → c.item < j) cs
+
+one_for : (P : AnswerCall → Type 0) (n item : ℕ) (ys : List AnswerCall) → ((c : AnswerCall) → c.number ≡ n → c.item ≡ item → P c) → CallsFor n item ys → AllByRecursion P ys
+one_for P n item [] f h = tt
+one_for P n item (y ∷ ys) f h = (f y h.0.0 h.0.1, subst (λ zs. AllByRecursion P zs) (sym h.1) tt)
+
+rise_more : (n item : ℕ) (xs ys : List AnswerCall) → ItemsRise xs → AllByRecursion (λ c. c.item < item) xs → CallsFor n item ys → ItemsRise (xs ++ ys)
+rise_more n item [] [] h b k = tt
+rise_more n item [] (y ∷ ys) h b k = subst (λ zs. ItemsRise (y ∷ zs)) (sym k.1) (tt, tt)
+rise_more n item (x ∷ xs) ys h b k = (
+  each_append (λ (d : AnswerCall). x.item < d.item) xs ys h.0 (one_for (λ (d : AnswerCall). x.item < d.item) n item ys (λ d p q. (let w = b.0 in omega arith)) k),
+  rise_more n item xs ys h.1 b.1 k,
+)
+
+-- what is due after the least that was due is greater
+after_least : (m k : Open) (item j : ℕ) → ((i : ℕ) → i < item → IsDue m i → ⊥) → ((i : ℕ) → IsDue k i → IsDue m i) → (IsDue k item → ⊥) → IsDue k j → item < j
+after_least m k item j least later done d = elim (leb_tells (item + 1) j) [
+  | inl i ↦ (let x = i.1 in omega arith)
+  | inr i ↦ elim (leb_tells (j + 1) item) [
+    | inl w ↦ absurd (least j (let x = w.1 in omega arith) (later j d))
+    | inr w ↦ absurd (done (subst (λ e. IsDue k e) (let x = i.1 in let y = w.1 in let z : j ≡ item = omega arith in z) d))
+  ]
+]
+
 -- items are answered one after another
-pub due_more : {A : Type 0} (g : Answerer.Ghosts A) (o : Open) (n item : ℕ) (a b c : A) → n ≡ o.number → IsDue o item → AnswererAdds g (CallsDue o) a b → AnswererAdds g (CallsFor n item) b c → AnswererAdds g (CallsDue o) a c
-due_more g o n item a b c e d x y = answers_joins g (CallsDue o) (CallsFor n item) (CallsDue o) a b c
-    (λ xs ys h k. each_append (λ (z : AnswerCall). (z.number ≡ o.number) × IsDue o z.item) xs ys h (each_map (λ (z : AnswerCall). (z.number ≡ n) × (z.item ≡ item)) (λ (z : AnswerCall). (z.number ≡ o.number) × IsDue o z.item) ys (λ z q. (q.0 ∙ e, subst (λ i. IsDue o i) (sym q.1) d)) k)) x y
+pub due_more : {A : Type 0} (g : Answerer.Ghosts A) (o m k : Open) (n item : ℕ) (a b c : A) → n ≡ o.number → IsDue o item → IsDue m item → ((i : ℕ) → i < item → IsDue m i → ⊥) → ((i : ℕ) → IsDue k i → IsDue m i) → (IsDue k item → ⊥)
+    → AnswererAdds g (DueSoFar o m) a b → AnswererAdds g (CallsFor n item) b c → AnswererAdds g (DueSoFar o k) a c
+due_more g o m k n item a b c e d here least later done x y = answers_joins g (DueSoFar o m) (CallsFor n item) (DueSoFar o k) a b c
+    (λ xs ys h f.
+    let below : AllByRecursion (λ (z : AnswerCall). z.item < item) xs = each_map (λ (z : AnswerCall). (j : ℕ) → IsDue m j → z.item < j) (λ (z : AnswerCall). z.item < item) xs (λ z w. w item here) h.1 in (
+      (
+        each_append (λ (z : AnswerCall). (z.number ≡ o.number) × IsDue o z.item) xs ys h.0.0 (one_for (λ (z : AnswerCall). (z.number ≡ o.number) × IsDue o z.item) n item ys (λ z p q. (p ∙ e, subst (λ i. IsDue o i) (sym q) d)) f),
+        rise_more n item xs ys h.0.1 below f,
+      ),
+      each_append (λ (z : AnswerCall). (j : ℕ) → IsDue k j → z.item < j) xs ys (each_map (λ (z : AnswerCall). (j : ℕ) → IsDue m j → z.item < j) (λ (z : AnswerCall). (j : ℕ) → IsDue k j → z.item < j) xs (λ z w j v. w j (later j v)) h.1)
+          (one_for (λ (z : AnswerCall). (j : ℕ) → IsDue k j → z.item < j) n item ys (λ z p q j v. subst (λ i. i < j) (sym q) (after_least m k item j least later done v)) f),
+    )) x y
 
 at_once : (x : Slot) (ps : List Part) (cs : List AnswerCall) → CallsDue (given_open x ps) cs → CallsAtOnce ps (number_in x) cs
-at_once x ps [] h = tt
-at_once x ps (c ∷ cs) h = ((h.0.0, h.0.1.2), at_once x ps cs h.1)
+at_once x ps cs h = (each_map (λ (c : AnswerCall). (c.number ≡ number_in x) × IsDue (given_open x ps) c.item) (λ (c : AnswerCall). (c.number ≡ number_in x) × (open_parts c.item ps ≡ 0)) cs (λ c w. (w.0, w.1.2)) h.0, h.1)
 
 -- a transaction was given its parts, what was due at once was answered, and its parts were settled in turn or it was closed
 pub delivered_turn : {I K A C D : Type 0} (gk : Sink.Ghosts K) (ga : Answerer.Ghosts A) (s : ℕ) (x : Slot) (ps : List Part) (f m g : FloorView I K A C D) → m.sinks ≡ f.sinks → AnswererAdds ga (CallsDue (given_open x ps)) f.answerer m.answerer
@@ -392,8 +462,8 @@ delivered_turn gk ga s x ps f m g es calls same turns closed = elim (given_or (i
       record {
         sinks = subst (λ ks. SinksAdd gk (PutInTurn ps (number_in x) 0 (length ps)) ks g.sinks) es (sinks_map gk (PutInTurn (parts_in (slot_at m.ledger s)) (number_in (slot_at m.ledger s)) 0 (length (parts_in (slot_at m.ledger s)))) (PutInTurn ps (number_in x) 0 (length ps)) m.sinks g.sinks
             (λ rs h. (subst (λ n. RecordsInTurn n 0 (length ps) rs) k.number (subst (λ j. RecordsInTurn (number_in (slot_at m.ledger s)) 0 j rs) k.many h.0), leaves_from ps (parts_in (slot_at m.ledger s)) rs k.same_leaves h.1)) t.sinks);
-        answers = answers_joins ga (CallsDue (given_open x ps)) (CallsInTurn (parts_in (slot_at m.ledger s)) (number_in (slot_at m.ledger s)) 0 (length (parts_in (slot_at m.ledger s)))) (CallsDelivered ps (number_in x)) f.answerer m.answerer g.answerer
-            (λ xs ys h w. (xs, (ys, (refl, (at_once x ps xs h, calls_from ps (parts_in (slot_at m.ledger s)) (number_in x) 0 (length ps) ys k.from (subst (λ n. CallsInTurn (parts_in (slot_at m.ledger s)) n 0 (length ps) ys) k.number (subst (λ j. CallsInTurn (parts_in (slot_at m.ledger s)) (number_in (slot_at m.ledger s)) 0 j ys) k.many w))))))) calls t.answers;
+        answers = answers_joins ga (CallsDue (given_open x ps)) (CallsInTurn (parts_in (slot_at m.ledger s)) (number_in (slot_at m.ledger s)) 0 0 (length (parts_in (slot_at m.ledger s)))) (CallsDelivered ps (number_in x)) f.answerer m.answerer g.answerer
+            (λ xs ys h w. (xs, (ys, (refl, (at_once x ps xs h, calls_from ps (parts_in (slot_at m.ledger s)) (number_in x) 0 0 (length ps) ys k.from (subst (λ n. CallsInTurn (parts_in (slot_at m.ledger s)) n 0 0 (length ps) ys) k.number (subst (λ j. CallsInTurn (parts_in (slot_at m.ledger s)) (number_in (slot_at m.ledger s)) 0 0 j ys) k.many w))))))) calls t.answers;
       })
   | inr e ↦ subst (λ v. DeliveredInTurn gk ga (number_in x) ps f v) (sym (closed e)) (record {
     sinks = subst (λ ks. SinksAdd gk (PutInTurn ps (number_in x) 0 (length ps)) f.sinks ks) (sym es) (sinks_same gk (PutInTurn ps (number_in x) 0 (length ps)) f.sinks (tt, tt));

@@ -1,5 +1,5 @@
 -- What settling adds to the lists of the sinks and of the answerer, in a floor without holds.
-use Rattle.std.specs.Prelude.{◌≡◌, ◌≢◌, ℕ, ◌<◌, ◌≤◌, ◌⊎◌, true, List, [], ◌∷◌, ◌++◌, length, get_or, IsTrue}
+use Rattle.std.specs.Prelude.{◌≡◌, ◌≢◌, ℕ, ◌+◌, ◌<◌, ◌≤◌, ◌⊎◌, true, List, [], ◌∷◌, ◌++◌, length, get_or, IsTrue}
 use Rattle.std.specs.List.{AllByRecursion}
 use Rattle.bt_demand.specs.Parts.{Part}
 use Rattle.bt_demand.specs.WellFormed.{leaves}
@@ -39,18 +39,29 @@ abbrev pub AtMostOne : (n p l : ℕ) → List Record → Type 0
 AtMostOne n p l [] = Unit {0}
 AtMostOne n p l (r ∷ rs) = ((r.txn ≡ n) × ((r.part ≡ p) × (r.leaf ≡ l))) × (rs ≡ [])
 
--- calls for items of transaction n, each of which a part from `lo` up to `hi` comes from, in order of these parts
-abbrev pub CallsInTurn : List Part → (n lo hi : ℕ) → List AnswerCall → Type 0
-CallsInTurn ps n lo hi [] = Unit {0}
-CallsInTurn ps n lo hi (c ∷ cs) = (c.number ≡ n) × ((q : ℕ) × ((lo ≤ q) × ((q < hi) × ((1 ≤ times c.item (from_of ps q)) × CallsInTurn ps n q hi cs))))
+-- the items of calls rise
+abbrev pub ItemsRise : List AnswerCall → Type 0
+ItemsRise [] = Unit {0}
+ItemsRise (c ∷ cs) = AllByRecursion (λ d. c.item < d.item) cs × ItemsRise cs
 
--- calls for items of an open transaction that were due
+-- a part comes after another, or it is the same one and the item isn't below the other
+abbrev pub NotBefore : (part item later_part later_item : ℕ) → Type 0
+NotBefore p i q j = (p < q) ⊎ ((p ≡ q) × (i ≤ j))
+
+-- Calls for items of transaction n, each of which a part from `lo` up to `hi` comes from: in order of these parts, and those by
+-- one part in order of the items, by part `lo` from item i on.
+abbrev pub CallsInTurn : List Part → (n lo i hi : ℕ) → List AnswerCall → Type 0
+CallsInTurn ps n lo i hi [] = Unit {0}
+CallsInTurn ps n lo i hi (c ∷ cs) = (c.number ≡ n) × ((q : ℕ) × (NotBefore lo i q c.item × ((q < hi) × ((1 ≤ times c.item (from_of ps q)) × CallsInTurn ps n q (c.item + 1) hi cs))))
+
+-- calls for items of an open transaction that were due, in rising order
 abbrev pub CallsDue : Open → List AnswerCall → Type 0
-CallsDue o cs = AllByRecursion (λ c. (c.number ≡ o.number) × IsDue o c.item) cs
+CallsDue o cs = AllByRecursion (λ c. (c.number ≡ o.number) × IsDue o c.item) cs × ItemsRise cs
 
--- calls for this item of transaction n
+-- no call, or one for this item of transaction n
 abbrev pub CallsFor : (n i : ℕ) → List AnswerCall → Type 0
-CallsFor n i cs = AllByRecursion (λ c. (c.number ≡ n) × (c.item ≡ i)) cs
+CallsFor n i [] = Unit {0}
+CallsFor n i (c ∷ cs) = ((c.number ≡ n) × (c.item ≡ i)) × (cs ≡ [])
 
 -- A sink later: its place stays, its count of faults doesn't fall, and each list that it tells has records more at its end,
 -- of which this is so.
@@ -89,20 +100,20 @@ pub record OnlyPart (p : ℕ) (x y : Slot) : Type 0 where
 -- leaves, and only items that these parts come from were answered.
 pub record Turned {I K A C D : Type 0} (gk : Sink.Ghosts K) (ga : Answerer.Ghosts A) (s lo hi : ℕ) (f g : FloorView I K A C D) : Type 0 where
   pub sinks : SinksAdd gk (PutInTurn (parts_in (slot_at f.ledger s)) (number_in (slot_at f.ledger s)) lo hi) f.sinks g.sinks
-  pub answers : AnswererAdds ga (CallsInTurn (parts_in (slot_at f.ledger s)) (number_in (slot_at f.ledger s)) lo hi) f.answerer g.answerer
+  pub answers : AnswererAdds ga (CallsInTurn (parts_in (slot_at f.ledger s)) (number_in (slot_at f.ledger s)) lo 0 hi) f.answerer g.answerer
   pub same : is_given (slot_at g.ledger s) ≡ true → SameFrom (slot_at f.ledger s) (slot_at g.ledger s)
   pub policies : g.ledger.policies ≡ f.ledger.policies
 
--- calls for items of transaction n of which no part is open
+-- calls for items of transaction n of which no part is open, in rising order
 abbrev pub CallsAtOnce : List Part → (n : ℕ) → List AnswerCall → Type 0
-CallsAtOnce ps n cs = AllByRecursion (λ c. (c.number ≡ n) × (open_parts c.item ps ≡ 0)) cs
+CallsAtOnce ps n cs = AllByRecursion (λ c. (c.number ≡ n) × (open_parts c.item ps ≡ 0)) cs × ItemsRise cs
 
 -- the calls of a delivery: first those for items of which no part is open, and then those by parts
 abbrev pub CallsDelivered : List Part → (n : ℕ) → List AnswerCall → Type 0
-CallsDelivered ps n cs = (at_once : List AnswerCall) × ((later : List AnswerCall) × ((cs ≡ at_once ++ later) × (CallsAtOnce ps n at_once × CallsInTurn ps n 0 (length ps) later)))
+CallsDelivered ps n cs = (at_once : List AnswerCall) × ((later : List AnswerCall) × ((cs ≡ at_once ++ later) × (CallsAtOnce ps n at_once × CallsInTurn ps n 0 0 (length ps) later)))
 
 -- Transaction n was delivered with these parts, in order: the records are its own, by part and by leaf, and so are the calls,
--- by part.
+-- by part and by item.
 pub record DeliveredInTurn {I K A C D : Type 0} (gk : Sink.Ghosts K) (ga : Answerer.Ghosts A) (n : ℕ) (ps : List Part) (f g : FloorView I K A C D) : Type 0 where
   pub sinks : SinksAdd gk (PutInTurn ps n 0 (length ps)) f.sinks g.sinks
   pub answers : AnswererAdds ga (CallsDelivered ps n) f.answerer g.answerer

@@ -1,4 +1,4 @@
-use Rattle.std.proofs.Common.{◌<◌, ◌≤◌, ap, arith, subst, sym}
+use Rattle.std.proofs.Common.{◌<◌, ap, arith, subst, sym}
 use Rattle.bt_carry.specs.Calls.{ReadForEach}
 use Rattle.bt_carry.proofs.Carrying.{same_run-same}
 use Rattle.bt_carry.proofs.Ordering.{quiet_ordered}
@@ -27,4 +27,4 @@ returns-clause-order g c = λ h.
     let run = subst (λ o. SameRun g.I.Intake g.C.Clock c.turn.new.desk.floor.outside o) (sym e) (same_run-same g.I.Intake g.C.Clock c.turn.new.desk.floor.outside) in
     let again : ReadForEach g.C.Clock c.finish.new.self.floor.outside = subst (λ f. ReadForEach g.C.Clock f) (sym e) read in
     let t = ap (λ (o : Outside _ _ _). o.taken) e in
-    quiet_ordered g.I.Intake g.K.Sink g.A.Answerer g.C.Clock g.D.Derive c.turn.new.desk.floor c.finish.new.self.floor (c.finish.ensures.unheld so_far.unheld) run read again (omega arith) c.finish.ensures.stands.1.sound.policies so_far
+    quiet_ordered g.I.Intake g.K.Sink g.A.Answerer g.C.Clock g.D.Derive c.turn.new.desk.floor c.finish.new.self.floor (c.finish.ensures.unheld so_far.unheld) run read again t c.finish.ensures.stands.1.sound.policies so_far

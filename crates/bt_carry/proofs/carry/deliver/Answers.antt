@@ -17,5 +17,6 @@ deliver-requires-clause-derived g c = λ κs within. if_ok_each
 
 pub returns-clause-adds : goal.returns-clause-adds
 returns-clause-adds g c = λ q.
-    subst (λ n. AddsInTurn g.K.Sink g.A.Answerer n (g.D.Derive.parts c.args.plan.now c.args.txn.now) c.args.desk.now.floor c.deliver.new.self.floor) c.requires.number
-    (adds_of g.K.Sink g.A.Answerer (duty_at c.args.desk.now.duties 0).number (duty_at c.args.desk.now.duties 0).items (g.D.Derive.parts c.args.plan.now c.args.txn.now) c.args.desk.now.floor c.deliver.new.self.floor c.derive-routes.result c.derive-routes.ensures.parts c.deliver.ensures.turn c.deliver.ensures.refusal q)
+    subst (λ i. AddsInTurn g.K.Sink g.A.Answerer c.args.txn.now.number i (g.D.Derive.parts c.args.plan.now c.args.txn.now) c.args.desk.now.floor c.deliver.new.self.floor) c.requires.items
+    (subst (λ n. AddsInTurn g.K.Sink g.A.Answerer n (duty_at c.args.desk.now.duties 0).items (g.D.Derive.parts c.args.plan.now c.args.txn.now) c.args.desk.now.floor c.deliver.new.self.floor) c.requires.number
+    (adds_of g.K.Sink g.A.Answerer (duty_at c.args.desk.now.duties 0).number (duty_at c.args.desk.now.duties 0).items (g.D.Derive.parts c.args.plan.now c.args.txn.now) c.args.desk.now.floor c.deliver.new.self.floor c.derive-routes.result c.derive-routes.ensures.parts c.deliver.ensures.turn c.deliver.ensures.refusal q))

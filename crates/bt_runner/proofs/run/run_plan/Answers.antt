@@ -25,4 +25,4 @@ returns-in-Ok-make g c =
     (subst (λ x. SameRun g.I.Intake g.C.Clock x o) start c.carry.ensures.run)
     sound.course c.carry.ensures.read (sound.sinks ∙ ap g.D.Derive.sinks over) c.carry.ensures.account
     (λ q. all_ordered g.I.Intake g.K.Sink g.A.Answerer g.C.Clock g.D.Derive desk.floor (c.carry.ensures.order
-    (begins_ordered g.I.Intake g.K.Sink g.A.Answerer g.C.Clock g.D.Derive plan c.args.parts c.in-Ok-make.desk.floor (ap (λ (x : Outside _ _ _). x.plan) start) holds c.in-Ok-make.ensures.begins.sinks c.in-Ok-make.ensures.begins.answerer c.requires.unwritten c.requires.unanswered q)))
+    (begins_ordered g.I.Intake g.K.Sink g.A.Answerer g.C.Clock g.D.Derive plan c.args.parts c.in-Ok-make.desk.floor (ap (λ (x : Outside _ _ _). x.plan) start) holds c.in-Ok-make.ensures.begins.sinks c.in-Ok-make.ensures.begins.answerer (ap (λ (x : Outside _ _ _). x.taken) start) c.requires.unwritten c.requires.unanswered q)))
