@@ -25,7 +25,7 @@ pub if_ok_each : {T E : Type 0} (P Q : T → Type 0) (r : Result T E) → ((x : 
 if_ok_each P Q (Ok x) f h = f x h
 if_ok_each P Q (Err e) f h = tt
 
-some_same : (xs ys : List Item) (o : Option (List Item)) → o ≡ Some xs → o ≡ Some ys → xs ≡ ys
+pub some_same : (xs ys : List Item) (o : Option (List Item)) → o ≡ Some xs → o ≡ Some ys → xs ≡ ys
 some_same xs ys o e f = let z : Some xs ≡ Some ys = sym e ∙ f in cc
 
 module _ {I C D : Type 0} (gi : Intake.Ghosts I) (gc : Clock.Ghosts C) where

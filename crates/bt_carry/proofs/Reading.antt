@@ -325,5 +325,6 @@ module _ {I K A C D : Type 0} (gi : Intake.Ghosts I) (gk : Sink.Ghosts K) (ga : 
     records = each_owned (λ k r. (1 ≤ r.txn) × (r.txn ≤ f.outside.taken)) known;
     calls = sound.no_other tell.answerer;
     faults = λ k d w z. all_none (gk.refused (get_or f.sinks k d)) (no_refusal k d w z);
+    answer_faults = sound.answer_faults tell.answerer;
     counted = sound.counted tell.answerer;
   }

@@ -74,13 +74,14 @@ pub record Closed {I K A C D : Type 0} (gi : Intake.Ghosts I) (gk : Sink.Ghosts 
   pub became : Became gk ga ks a n (length txn.items.list) (gd.parts f.plan txn) without_memory
 
 -- Sinks, an answerer and counts are those of a run that is over: each transaction that was taken is closed, there is no
--- other record and no other call, a record was refused only where its sink counted a fault, and the counts are the numbers
--- of calls.
+-- other record and no other call, a record was refused only where its sink counted a fault, a call failed only where the
+-- answerer counted one, and the counts are the numbers of calls.
 pub record Account {I K A C D : Type 0} (gi : Intake.Ghosts I) (gk : Sink.Ghosts K) (ga : Answerer.Ghosts A) (gc : Clock.Ghosts C) (gd : Derive.Ghosts D) (f : Outside I C D) (ks : List K) (a : A) (c : Counts) : Type 0 where
   pub closed : (n : ℕ) → 1 ≤ n → n ≤ f.taken → Closed gi gk ga gc gd f ks a n
   pub records : EachRecord gk ks (λ k r. (1 ≤ r.txn) × (r.txn ≤ f.taken))
   pub calls : AllByRecursion (λ x. (1 ≤ x.number) × (x.number ≤ f.taken)) (ga.calls a)
   pub faults : (k : ℕ) (d : K) → k < length ks → gk.faults (get_or ks k d) ≡ 0 → gk.refused (get_or ks k d) ≡ []
+  pub answer_faults : ga.faults a ≡ 0 → AllByRecursion (λ x. x.failed ≡ false) (ga.calls a)
   pub counted : AnswersCounted (ga.calls a) c
 
 -- intake, clock, sinks and answerer tell what they hold

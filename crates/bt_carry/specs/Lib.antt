@@ -1,3 +1,4 @@
 pub mod Account
 pub mod Calls
+pub mod Order
 pub mod Settled

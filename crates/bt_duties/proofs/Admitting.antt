@@ -1,16 +1,17 @@
 -- What an admission does, by what its moves do.
 use Rattle.std.proofs.Common.{◌≡◌, ◌≢◌, ℕ, ◌+◌, ◌<◌, ◌≤◌, List, [], length, set, arith, refl, sym, ap, ◌∙◌, subst, IsTrue, Some, None, get_or-set_same, get_or-set_other}
 use Rattle.bt_chains.specs.declared.Entry.{Entry}
-use Rattle.bt_duties.specs.Calls.{NothingReleased, Took, WasFull, Stopped, Admits}
+use Rattle.bt_duties.specs.Calls.{NothingReleased, NothingSettled, Took, WasFull, Stopped, Admits}
 use Rattle.bt_duties.specs.DeskView.{DeskView}
 use Rattle.bt_duties.specs.Duties.{idle, duty_at}
 use Rattle.bt_duties.specs.declared.admit.Admit.{Admit}
 use Rattle.bt_duties.specs.declared.admit.Admit.TheVariants as admit
 use Rattle.bt_duties.specs.declared.duty.Duty.{Duty}
-use Rattle.bt_floor.specs.Calls.{EndFaults, SameRun, Takes}
+use Rattle.bt_demand.specs.declared.routes.HoldPolicy.{HoldPolicy}
+use Rattle.bt_floor.specs.Calls.{EndFaults, Ends, SameRun, Takes}
 use Rattle.bt_ledger.specs.Ledger.{Ledger, chain_at, opened}
 use Rattle.bt_moves.specs.Resting.{Emptied, NoneWaitedOut, StaysUnlessPast}
-use Rattle.bt_moves.proofs.Periods.{empty_past}
+use Rattle.bt_moves.proofs.Periods.{empty_past, none_past}
 use Rattle.bt_ports.specs.Faults.{last_count, one_more}
 use Rattle.bt_ports.specs.declared.outside.Clock as Clock
 use Rattle.bt_ports.specs.declared.outside.Intake as Intake
@@ -102,3 +103,19 @@ admits_from gi gc k admit.ReadFault d m e p h = stopped_from gi gc d m e ending.
 admits_from gi gc k (admit.LongLine n) d m e p h = stopped_from gi gc d m e (ending.LongLine n) p h
 admits_from gi gc k admit.Bound d m e p h = stopped_from gi gc d m e ending.Bound p h
 admits_from gi gc k admit.NoMemory d m e p h = stopped_from gi gc d m e ending.NoMemory p h
+
+-- where there are no holds, nothing is settled at an admission
+pub taken_unheld : {I K A C D : Type 0} (gi : Intake.Ghosts I) (gc : Clock.Ghosts C) (f m g : FloorView I K A C D) (s : ℕ) (t : Txn) → Takes gi gc f m s t → (NoneWaitedOut m.ledger t.moment → g ≡ m) → f.ledger.policies ≡ [] → NothingSettled f g
+taken_unheld gi gc f m g s t take unless e =
+    let z : length m.ledger.policies ≡ 0 = ap (λ (l : Ledger). length l.policies) take.ledger ∙ ap (λ (x : List HoldPolicy). length x) e in
+    let q = unless (none_past m.ledger 0 t.moment (omega arith) (λ n w. absurd (omega arith))) in
+    record { sinks = ap (λ (x : FloorView _ _ _ _ _). x.sinks) q ∙ take.sinks; answerer = ap (λ (x : FloorView _ _ _ _ _). x.answerer) q ∙ take.answerer }
+
+pub ended_unheld : {I K A C D : Type 0} (gi : Intake.Ghosts I) (gc : Clock.Ghosts C) (f g : FloorView I K A C D) (e : Ending) → Ends gi gc f g e → NothingSettled f g
+ended_unheld gi gc f g e h = record { sinks = ap (λ (x : FloorView _ _ _ _ _). x.sinks) h.only; answerer = ap (λ (x : FloorView _ _ _ _ _). x.answerer) h.only }
+
+pub same_unheld : {I K A C D : Type 0} (f g : FloorView I K A C D) → g ≡ f → NothingSettled f g
+same_unheld f g e = record { sinks = ap (λ (x : FloorView _ _ _ _ _). x.sinks) e; answerer = ap (λ (x : FloorView _ _ _ _ _). x.answerer) e }
+
+pub place_unheld : {I K A C D : Type 0} (f m g : FloorView I K A C D) → (f.ledger.policies ≡ [] → m ≡ f) → (m.ledger.policies ≡ [] → NothingSettled m g) → f.ledger.policies ≡ [] → NothingSettled f g
+place_unheld f m g same h e = let z = same e in subst (λ x. NothingSettled x g) z (h (ap (λ (x : FloorView _ _ _ _ _). x.ledger.policies) z ∙ e))

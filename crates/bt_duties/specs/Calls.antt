@@ -32,6 +32,11 @@ pub record NothingReleased {I K A C D : Type 0} (f g : FloorView I K A C D) : Ty
   pub releases : g.releases ≡ f.releases
   pub counts : g.counts ≡ f.counts
 
+-- no record was put, and nothing was answered
+pub record NothingSettled {I K A C D : Type 0} (f g : FloorView I K A C D) : Type 0 where
+  pub sinks : g.sinks ≡ f.sinks
+  pub answerer : g.answerer ≡ f.answerer
+
 -- Transaction t was taken, and duty k is out with it. It is the next one of the run, with at least one item and fewer than
 -- 2^32; the clock was read once, for its moment, and no read failed; the other duties stay. Afterwards no chain waited for
 -- its period at that moment. Where a slot was free before, the chains before the first that had waited for it stay, and

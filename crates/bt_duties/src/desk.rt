@@ -2,7 +2,7 @@
 ghost use Rattle.std.specs.Prelude.{◌≡◌, ◌+◌, ◌≢◌, ℕ, ◌<◌, ◌≤◌, ◌^◌, IfErr, IfOk, IsSome, None, [], eqb, false, length, not, replicate, true, ◌⊎◌};
 ghost use Rattle.std.specs.List.{list_any};
 ghost use Rattle.bt_demand.specs.Parts.{PartsFit, parts_of};
-ghost use Rattle.bt_duties.specs.Calls.{Admits, WasFull};
+ghost use Rattle.bt_duties.specs.Calls.{Admits, NothingSettled, WasFull};
 ghost use Rattle.bt_duties.specs.Duties.{AllIdle, duty_at, idle, items_out, number_out};
 ghost use Rattle.bt_floor.specs.Calls.{Begins, NothingAnswered, NothingPut};
 ghost use Rattle.bt_ledger.specs.Ledger.{opened};
@@ -10,7 +10,7 @@ ghost use Rattle.bt_duties.specs.Stands.{IsStanding};
 ghost use Rattle.bt_moves.specs.Resting.{Emptied};
 ghost use Rattle.bt_sound.specs.Counting.{capped};
 ghost use Rattle.bt_sound.specs.Transactions.{Derived};
-ghost use Rattle.bt_sound.specs.Turns.{DeliveredInTurn};
+ghost use Rattle.bt_sound.specs.Turns.{DeliveredInTurn, RefusedInTurn};
 
 use crate::admit::{Admit, answer_of};
 use crate::duty::Duty;
@@ -103,8 +103,9 @@ impl<I: Intake, K: Sink, A: Answerer, C: Clock, D: Derive> Desk<I, K, A, C, D> {
     /// run ends. Transactions are numbered from 1.
     ///
     /// Where the window is full it answers `Full` while some duty is out, and nothing changes; else it flushes first.
-    /// Each chain whose oldest entry waited for its hold's period at the transaction's moment is released. Only the intake
-    /// may take memory here, and `NoMemory` comes exactly where it found none.
+    /// Each chain whose oldest entry waited for its hold's period at the transaction's moment is released. Where the plan
+    /// has no holds, no record is put and nothing is answered. Only the intake may take memory here, and `NoMemory` comes
+    /// exactly where it found none.
     pub fn admit(&mut self, duty: u32) -> Admit
         requires duty { duty < length self.old.duties }
         requires idle { (duty_at self.old.duties duty).number ≡ 0 }
@@ -113,6 +114,7 @@ impl<I: Intake, K: Sink, A: Answerer, C: Clock, D: Derive> Desk<I, K, A, C, D> {
         ensures many { length self.new.duties ≡ length self.old.duties }
         ensures window { self.new.window ≡ self.old.window }
         ensures stands { IsStanding ⟦<I as Intake>⟧ ⟦<K as Sink>⟧ ⟦<A as Answerer>⟧ ⟦<C as Clock>⟧ ⟦<D as Derive>⟧ self.new }
+        ensures unheld { self.old.floor.ledger.policies ≡ [] → NothingSettled self.old.floor self.new.floor }
     {
         if !self.make_place() {
             self.stands();
@@ -141,6 +143,7 @@ impl<I: Intake, K: Sink, A: Answerer, C: Clock, D: Derive> Desk<I, K, A, C, D> {
         ensures duties { self.new.duties ≡ self.old.duties }
         ensures window { self.new.window ≡ self.old.window }
         ensures outside { self.new.floor.outside ≡ self.old.floor.outside }
+        ensures unheld { self.old.floor.ledger.policies ≡ [] → self.new.floor ≡ self.old.floor }
     {
         if self.floor.opened() < self.window {
             return true;
@@ -161,6 +164,7 @@ impl<I: Intake, K: Sink, A: Answerer, C: Clock, D: Derive> Desk<I, K, A, C, D> {
         ensures many { length self.new.duties ≡ length self.old.duties }
         ensures window { self.new.window ≡ self.old.window }
         ensures admits { Admits ⟦<I as Intake>⟧ ⟦<C as Clock>⟧ duty result self.old self.new }
+        ensures unheld { self.old.floor.ledger.policies ≡ [] → NothingSettled self.old.floor self.new.floor }
     {
         match self.floor.take() {
             Ok(taken) => {
@@ -181,8 +185,9 @@ impl<I: Intake, K: Sink, A: Answerer, C: Clock, D: Derive> Desk<I, K, A, C, D> {
     /// there was no memory for them. Afterwards the duty is idle.
     ///
     /// The parts are settled in order, as far as they go. Items are refused for want of memory exactly where there was none
-    /// for the parts, and then all are. Where the plan has no holds, the records and answers of the call are those of the
-    /// transaction alone, by its parts in order. Takes no memory.
+    /// for the parts, and then all are, in order, and no record is put. Where the plan has no holds, the records and answers
+    /// of the call are those of the transaction alone, by its parts in order, and the records of a part by its leaves in
+    /// order. Takes no memory.
     pub fn deliver(&mut self, duty: u32, routes: Result<Routes, NoMemory>)
         requires duty { duty < length self.old.duties }
         requires out { (duty_at self.old.duties duty).number ≢ 0 }
@@ -198,6 +203,7 @@ impl<I: Intake, K: Sink, A: Answerer, C: Clock, D: Derive> Desk<I, K, A, C, D> {
         ensures refused { IfErr routes (λ _. self.new.floor.outside ≡ record self.old.floor.outside { refused_memory = capped (self.old.floor.outside.refused_memory + (duty_at self.old.duties duty).items) }) }
         ensures window { self.new.window ≡ self.old.window }
         ensures stands { IsStanding ⟦<I as Intake>⟧ ⟦<K as Sink>⟧ ⟦<A as Answerer>⟧ ⟦<C as Clock>⟧ ⟦<D as Derive>⟧ self.new }
+        ensures refusal { IfErr routes (λ _. RefusedInTurn ⟦<A as Answerer>⟧ (duty_at self.old.duties duty).number (duty_at self.old.duties duty).items self.old.floor self.new.floor) }
         ensures turn { IfOk routes (λ r. self.old.floor.ledger.policies ≡ [] → DeliveredInTurn ⟦<K as Sink>⟧ ⟦<A as Answerer>⟧ (duty_at self.old.duties duty).number (parts_of r.parts.list) self.old.floor self.new.floor) }
     {
         let Duty { items, slot, .. } = entry(&self.duties, duty);
@@ -211,7 +217,8 @@ impl<I: Intake, K: Sink, A: Answerer, C: Clock, D: Derive> Desk<I, K, A, C, D> {
     }
 
     /// Closes a run that has ended, while no duty is out. All that waits is released, and all items of all taken
-    /// transactions are then answered. Takes no memory.
+    /// transactions are then answered. Where the plan has no holds, no record is put and nothing is answered. Takes no
+    /// memory.
     pub fn finish(&mut self)
         requires ended { IsSome self.old.floor.outside.ending }
         requires idle { AllIdle self.old.duties }
@@ -220,6 +227,7 @@ impl<I: Intake, K: Sink, A: Answerer, C: Clock, D: Derive> Desk<I, K, A, C, D> {
         ensures outside { self.new.floor.outside ≡ self.old.floor.outside }
         ensures window { self.new.window ≡ self.old.window }
         ensures stands { IsStanding ⟦<I as Intake>⟧ ⟦<K as Sink>⟧ ⟦<A as Answerer>⟧ ⟦<C as Clock>⟧ ⟦<D as Derive>⟧ self.new }
+        ensures unheld { self.old.floor.ledger.policies ≡ [] → NothingSettled self.old.floor self.new.floor }
     {
         self.floor.flush_all(Reason::End);
         self.finished = true;

@@ -11,7 +11,7 @@ ghost use Rattle.bt_moves.specs.Moves.{Delivered, SlotStays, OutStays};
 ghost use Rattle.bt_moves.specs.Resting.{AllSettled, Resting, AtRest, Delivering, Unripe};
 ghost use Rattle.bt_sound.specs.Counting.{capped};
 ghost use Rattle.bt_sound.specs.Transactions.{Derived, given_open};
-ghost use Rattle.bt_sound.specs.Turns.{DeliveredInTurn, Turned};
+ghost use Rattle.bt_sound.specs.Turns.{DeliveredInTurn, RefusedInTurn, Turned};
 
 use crate::floor::Floor;
 use bt_demand::derive::Derive;
@@ -157,6 +157,7 @@ impl<I: Intake, K: Sink, A: Answerer, C: Clock, D: Derive> Floor<I, K, A, C, D> 
         ensures kept { IfOk routes (λ _. self.new.outside ≡ self.old.outside) }
         ensures refused { IfErr routes (λ _. self.new.outside ≡ record self.old.outside { refused_memory = capped (self.old.outside.refused_memory + items) }) }
         ensures ending { self.new.outside.ending ≡ self.old.outside.ending }
+        ensures refusal { IfErr routes (λ _. RefusedInTurn ⟦<A as Answerer>⟧ (number_in (slot_at self.old.ledger slot)) items self.old self.new) }
         ensures turn { IfOk routes (λ r. self.old.ledger.policies ≡ [] → DeliveredInTurn ⟦<K as Sink>⟧ ⟦<A as Answerer>⟧ (number_in (slot_at self.old.ledger slot)) (parts_of r.parts.list) self.old self.new) }
     {
         match routes {

@@ -57,7 +57,8 @@ impl<I: Intake, K: Sink, A: Answerer, C: Clock, D: Derive> Floor<I, K, A, C, D> 
         self.in_order();
     }
 
-    /// Flushes a floor on which nothing can go on. That closes every transaction that is open.
+    /// Flushes a floor on which nothing can go on. That closes every transaction that is open. Where there are no holds,
+    /// nothing changes.
     pub fn flush_all(&mut self, why: Reason)
         requires { Resting self.old.ledger }
         ensures resting { Resting self.new.ledger }
@@ -66,6 +67,7 @@ impl<I: Intake, K: Sink, A: Answerer, C: Clock, D: Derive> Floor<I, K, A, C, D> 
         ensures closed { (s : ℕ) → is_given (slot_at self.new.ledger s) ≡ false }
         ensures outside { self.new.outside ≡ self.old.outside }
         ensures slots { length self.new.ledger.slots ≡ length self.old.ledger.slots }
+        ensures unheld { self.old.ledger.policies ≡ [] → self.new ≡ self.old }
     {
         self.flush(why);
         self.in_order();

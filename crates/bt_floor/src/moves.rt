@@ -4,7 +4,9 @@ ghost use Rattle.bt_demand.specs.Find.{begun};
 ghost use Rattle.bt_demand.specs.Next.{todo};
 ghost use Rattle.bt_demand.specs.Parts.{PartsFit, parts_of};
 ghost use Rattle.bt_demand.specs.Reached.{Reach};
+ghost use Rattle.bt_demand.specs.Recorded.{untried};
 ghost use Rattle.bt_demand.specs.Steps.{settle, state_for};
+ghost use Rattle.bt_demand.specs.WellFormed.{nodes};
 ghost use Rattle.bt_demand.specs.declared.todo.Todo.TheVariants.{Wait};
 ghost use Rattle.bt_ledger.specs.Calls.{IsOut};
 ghost use Rattle.bt_ledger.specs.Due.{IsDue, LeastDue, unanswered};
@@ -18,7 +20,7 @@ ghost use Rattle.bt_sound.specs.Counting.{answer_with, count_with};
 ghost use Rattle.bt_sound.specs.Owned.{BatchFits, PutsAs, ReleasesRise};
 ghost use Rattle.bt_sound.specs.Records.{PutAt};
 ghost use Rattle.bt_sound.specs.Transactions.{Derived, given_open};
-ghost use Rattle.bt_sound.specs.Turns.{AnswererAdds, CallsFor, RecordsInTurn, SinksAdd};
+ghost use Rattle.bt_sound.specs.Turns.{AnswererAdds, AtMostOne, CallsFor, SinksAdd};
 
 use crate::floor::Floor;
 use bt_chains::Entry;
@@ -40,7 +42,8 @@ impl<I: Intake, K: Sink, A: Answerer, C: Clock, D: Derive> Floor<I, K, A, C, D> 
         ensures ledger { self.new.ledger ≡ with_part self.old.ledger slot part (settle leaf (state_for result) (part_tree self.old.ledger slot part)) }
         ensures releases { self.new.releases ≡ self.old.releases }
         ensures outside { self.new.outside ≡ self.old.outside }
-        ensures adds { SinksAdd ⟦<K as Sink>⟧ (RecordsInTurn (number_in (slot_at self.old.ledger slot)) part (part + 1)) self.old.sinks self.new.sinks }
+        ensures adds { SinksAdd ⟦<K as Sink>⟧ (AtMostOne (number_in (slot_at self.old.ledger slot)) part leaf) self.old.sinks self.new.sinks }
+        ensures plain { self.old.ledger.policies ≡ [] → nodes (untried (part_tree self.old.ledger slot part)) ≡ [] }
         ensures answerer { self.new.answerer ≡ self.old.answerer }
     {
         let number = self.ledger.number(slot);
@@ -94,6 +97,7 @@ impl<I: Intake, K: Sink, A: Answerer, C: Clock, D: Derive> Floor<I, K, A, C, D> 
         ensures sinks { self.new.sinks ≡ self.old.sinks }
         ensures adds { AnswererAdds ⟦<A as Answerer>⟧ (CallsFor (number_in (slot_at self.old.ledger slot)) item) self.old.answerer self.new.answerer }
         ensures dues { (i : ℕ) → IsDue (open_in (slot_at self.new.ledger slot)) i → IsDue (open_in (slot_at self.old.ledger slot)) i }
+        ensures done { IsDue (open_in (slot_at self.new.ledger slot)) item → ⊥ }
     {
         let number = self.ledger.number(slot);
         let verdict = verdict_on(&self.ledger, slot, item);

@@ -2,13 +2,14 @@
 ghost use Rattle.std.specs.Prelude.{◌≡◌, ◌+◌, ◌<◌, ◌^◌, length, Some, None, IfOk, IfErr, List};
 ghost use Rattle.bt_floor.specs.Calls.{Takes, Ends};
 ghost use Rattle.bt_ledger.specs.Calls.{IsOut};
-ghost use Rattle.bt_ledger.specs.Ledger.{items_in, slot_at, with_slot, opened};
+ghost use Rattle.bt_ledger.specs.Ledger.{items_in, number_in, slot_at, with_slot, opened};
 ghost use Rattle.bt_ledger.specs.declared.slot.Slot.TheVariants.{Free, Out};
 ghost use Rattle.bt_ports.specs.Intake.{stop_of};
 ghost use Rattle.bt_ports.specs.declared.parts.AnswerCall.{AnswerCall};
 ghost use Rattle.bt_sound.specs.Answers.{RefusedAll, RefusedOne};
 ghost use Rattle.bt_sound.specs.Counting.{capped};
 ghost use Rattle.bt_sound.specs.Course.{ending_of};
+ghost use Rattle.bt_sound.specs.Turns.{RefusedInTurn};
 
 use crate::floor::Floor;
 use crate::moves::count_answer;
@@ -60,13 +61,14 @@ impl<I: Intake, K: Sink, A: Answerer, C: Clock, D: Derive> Floor<I, K, A, C, D> 
         }
     }
 
-    /// Refuses each item of a transaction that is out, for want of memory, and frees its slot.
+    /// Refuses each item of a transaction that is out, in order, for want of memory, and frees its slot.
     pub fn refuse(&mut self, slot: u32, items: u64)
         requires within { slot < length self.old.ledger.slots }
         requires out { IsOut (slot_at self.old.ledger slot) }
         requires items { items ≡ items_in (slot_at self.old.ledger slot) }
         ensures ledger { self.new.ledger ≡ with_slot self.old.ledger slot Free }
         ensures refused { self.new.outside ≡ record self.old.outside { refused_memory = capped (self.old.outside.refused_memory + items) } }
+        ensures turn { RefusedInTurn ⟦<A as Answerer>⟧ (number_in (slot_at self.old.ledger slot)) items self.old self.new }
     {
         let number = self.ledger.number(slot);
         refuse_items(&mut self.answerer, &mut self.counts, number, items);

@@ -1,5 +1,6 @@
 -- An answer and a close keep a floor sound.
-use Rattle.std.proofs.Common.{◌≡◌, ◌≢◌, ℕ, zero, suc, ◌+◌, ◌<◌, ◌≤◌, Bool, true, false, eqb, not, ◌&&◌, List, [], ◌∷◌, ◌++◌, length, get_or, set, inl, inr, arith, refl, sym, ap, ◌∙◌, subst, eq-eqb, Some, IsTrue, get_or-set_same, get_or-set_other, length-set}
+use Rattle.std.proofs.Common.{◌≡◌, ◌≢◌, ℕ, zero, suc, ◌+◌, ◌<◌, ◌≤◌, Bool, true, false, eqb, not, ◌&&◌, List, [], ◌∷◌, ◌++◌, length, get_or, set, inl, inr, arith, refl, sym, ap, ◌∙◌, subst, eq-eqb, Some, Result, Ok, Err, IsTrue, get_or-set_same, get_or-set_other, length-set}
+use Rattle.std.specs.Prelude.{is_err, OnErr}
 use Rattle.std.specs.List.{AllByRecursion}
 use Rattle.std.proofs.lemmas.Bool.Decides.{eqb_tells}
 use Rattle.bt_demand.specs.Holding.{one_if}
@@ -14,6 +15,7 @@ use Rattle.bt_ledger.specs.declared.slot.Slot.{Slot}
 use Rattle.bt_ledger.specs.declared.slot.Slot.TheVariants.{Free, Given}
 use Rattle.bt_ledger.proofs.Slots.{given_taken}
 use Rattle.bt_moves.specs.Moves.{is_out}
+use Rattle.bt_ports.specs.Faults.{Rose, last_count}
 use Rattle.bt_ports.specs.declared.outside.Answerer as Answerer
 use Rattle.bt_ports.specs.declared.outside.Clock as Clock
 use Rattle.bt_ports.specs.declared.outside.Intake as Intake
@@ -87,6 +89,7 @@ sound_close gi gk ga gc gd f closed s h w g done =
       says = λ tells. each_map (λ c. SaysTrue f.ledger closed c) (λ c. SaysTrue (with_slot f.ledger s Free) (record { state = open_in (slot_at f.ledger s); memory = false } ∷ closed) c) (ga.calls f.answerer)
           (λ c x. (over_close (λ y. y.number ≡ c.number → Says y c) is_given true f.ledger s w no x.0, ((λ e. x.0 s g e), x.1))) (h.says tells);
       no_other = h.no_other;
+      answer_faults = h.answer_faults;
     }
 
 pub calls_more : (n i : ℕ) (cs : List AnswerCall) (c : AnswerCall) → calls_for n i (cs ++ c ∷ []) ≡ calls_for n i cs + one_if (is_for n i c)
@@ -162,9 +165,9 @@ known_answer l s closed m bs w x = (
 pub sound_answer : {I K A C D : Type 0} (gi : Intake.Ghosts I) (gk : Sink.Ghosts K) (ga : Answerer.Ghosts A) (gc : Clock.Ghosts C) (gd : Derive.Ghosts D) (f : FloorView I K A C D) (closed : List Past) (s i : ℕ) (c : AnswerCall) (u : A) (n : Counts)
     → Sound gi gk ga gc gd f closed → IsGiven f.ledger s → IsDue (open_in (slot_at f.ledger s)) i → c.number ≡ number_in (slot_at f.ledger s) → c.item ≡ i
     → Some c.verdict ≡ verdict_of (open_in (slot_at f.ledger s)) i → c.why ≡ why_of (open_in (slot_at f.ledger s)) i
-    → (IsTrue (ga.tells u) → IsTrue (ga.tells f.answerer)) → (IsTrue (ga.tells u) → ga.calls u ≡ ga.calls f.answerer ++ c ∷ []) → n ≡ answer_with c.verdict c.failed f.counts
+    → (IsTrue (ga.tells u) → IsTrue (ga.tells f.answerer)) → (IsTrue (ga.tells u) → ga.calls u ≡ ga.calls f.answerer ++ c ∷ []) → ga.faults f.answerer ≤ ga.faults u → (ga.faults u ≡ 0 → c.failed ≡ false) → n ≡ answer_with c.verdict c.failed f.counts
     → Sound gi gk ga gc gd (record f { ledger = with_slot f.ledger s (Given (record (open_in (slot_at f.ledger s)) { answered = set (answered_in (slot_at f.ledger s)) i true })); answerer = u; counts = n }) closed
-sound_answer gi gk ga gc gd f closed s i c u n h w due en ei ev ey told calls cn =
+sound_answer gi gk ga gc gd f closed s i c u n h w due en ei ev ey told calls rise fine cn =
     let o = open_in (slot_at f.ledger s) in
     let bs = set (answered_in (slot_at f.ledger s)) i true in
     let g : is_given (slot_at f.ledger s) ≡ true = given_is (slot_at f.ledger s) w.1 in
@@ -224,8 +227,14 @@ sound_answer gi gk ga gc gd f closed s i c u n h w due en ei ev ey told calls cn
             ]),
             each_map (λ q. q.state.number ≢ number_in (slot_at f.ledger s)) (λ q. q.state.number ≡ c.number → PastSays q.memory q.state c) closed (λ q x e. absurd (x (e ∙ en))) gone,
           ));
+      answer_faults = λ tells z. subst (λ v. AllByRecursion (λ x. x.failed ≡ false) v) (sym (calls tells)) (each_snoc (λ (x : AnswerCall). x.failed ≡ false) (ga.calls f.answerer) c (h.answer_faults (told tells) (omega arith)) (fine z));
       no_other = λ tells. subst (λ v. AllByRecursion (λ x. (1 ≤ x.number) × (x.number ≤ f.outside.taken)) v) (sym (calls tells)) (each_snoc (λ x. (1 ≤ x.number) × (x.number ≤ f.outside.taken)) (ga.calls f.answerer) c (h.no_other (told tells)) (let a = range.0 in let b = range.1 in (omega arith, omega arith)));
     }
+
+-- a call that failed counted a fault
+pub fine_answer : {T E : Type 0} (r : Result T E) (a b : ℕ) → OnErr r (Rose a b) → b ≡ 0 → is_err r ≡ false
+fine_answer (Ok x) a b h z = refl
+fine_answer (Err e) a b h z = absurd (omega arith)
 
 -- what the outside says of refusals is what the counts say
 pub sound_memory : {I K A C D : Type 0} (gi : Intake.Ghosts I) (gk : Sink.Ghosts K) (ga : Answerer.Ghosts A) (gc : Clock.Ghosts C) (gd : Derive.Ghosts D) (f : FloorView I K A C D) (closed : List Past) (k : ℕ) → f.outside.refused_memory ≡ k → Sound gi gk ga gc gd f closed

@@ -1,6 +1,7 @@
 pub mod Answered
 pub mod Counting
 pub mod Course
+pub mod Leftmost
 pub mod Lists
 pub mod Owned
 pub mod Placing

@@ -60,6 +60,7 @@ sound_release gi gk ga gc gd f closed n why k rs h w ek er rise =
       past_called = h.past_called;
       says = h.says;
       no_other = h.no_other;
+      answer_faults = h.answer_faults;
       counted = λ tells. subst (λ q. AnswersCounted (ga.calls f.answerer) q) (sym ek) (counted_release (ga.calls f.answerer) why f.counts (h.counted tells));
       summed = subst (λ q. ReleasesSum q k) (sym er) (subst (λ q. ReleasesSum (set f.releases n (one_more (get_or f.releases n 0))) q) (sym ek) (summed_release f.releases n why f.counts w h.summed));
       refusals = h.refusals ∙ sym (ap (λ (x : Counts). x.refused_memory) ek ∙ release_memory why f.counts);

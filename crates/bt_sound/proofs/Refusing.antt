@@ -171,6 +171,7 @@ sound_refuse gi gk ga gc gd f closed s u k ds h w out r =
             ((λ _. x.1), each_map (λ q. q.state.number ≢ number_in (slot_at f.ledger s)) (λ q. q.state.number ≡ c.number → PastSays q.memory q.state c) closed (λ q v e. absurd (v (e ∙ x.0))) gone),
           ))
           (refusals_all ds (number_in (slot_at f.ledger s)) 0 r.each)));
+      answer_faults = λ t z. (let rise = r.faults in subst (λ cs. AllByRecursion (λ c. c.failed ≡ false) cs) (sym (r.calls t)) (each_append (λ (c : AnswerCall). c.failed ≡ false) (ga.calls f.answerer) ds (h.answer_faults (r.told t) (omega arith)) (r.fine z)));
       no_other = λ t. subst (λ cs. AllByRecursion (λ c. (1 ≤ c.number) × (c.number ≤ f.outside.taken)) cs) (sym (r.calls t))
           (each_append (λ c. (1 ≤ c.number) × (c.number ≤ f.outside.taken)) (ga.calls f.answerer) ds (h.no_other (r.told t))
           (each_map (λ c. (c.number ≡ number_in (slot_at f.ledger s)) × ((c.verdict ≡ Refused NoMemory) × (c.why ≡ []))) (λ c. (1 ≤ c.number) × (c.number ≤ f.outside.taken)) ds
@@ -208,11 +209,14 @@ snoc_length (x ∷ cs) c = let a = snoc_length cs c in omega arith
 
 -- no item was refused yet
 pub refused_none : {A : Type 0} (g : Answerer.Ghosts A) (j : A) (c : Counts) (n : ℕ) → RefusedAll g j j c c n 0 []
-refused_none g j c n = record { many = refl; each = tt; told = λ x. x; calls = λ x. sym (append-nil (g.calls j)); counted = refl }
+refused_none g j c n = record { place = refl; faults = omega arith; fine = λ z. tt; many = refl; each = tt; told = λ x. x; calls = λ x. sym (append-nil (g.calls j)); counted = refl }
 
 -- one more was
 pub refused_more : {A : Type 0} (g : Answerer.Ghosts A) (j k m : A) (c d e : Counts) (n i : ℕ) (cs : List AnswerCall) (call : AnswerCall) → RefusedAll g j k c d n i cs → RefusedOne g k m d e n i call → RefusedAll g j m c e n (i + 1) (cs ++ call ∷ [])
 refused_more g j k m c d e n i cs call h o = record {
+  place = o.place ∙ h.place;
+  faults = (let a = h.faults in let b = o.faults in omega arith);
+  fine = λ z. each_append (λ (x : AnswerCall). x.failed ≡ false) cs (call ∷ []) (h.fine (let b = o.faults in omega arith)) (o.fine z, tt);
   many = (let a = snoc_length cs call in let b = h.many in omega arith);
   each = refusals_snoc cs n 0 call h.each (subst (λ q. IsRefusal n q call) (let b = h.many in let z : i ≡ 0 + length cs = omega arith in z) o.is);
   told = λ x. h.told (o.told x);

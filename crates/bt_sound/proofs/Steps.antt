@@ -2,6 +2,7 @@
 use Rattle.std.proofs.Common.{◌≡◌, ◌≢◌, ℕ, zero, suc, ◌+◌, ◌<◌, Bool, true, false, List, [], ◌∷◌, length, inl, inr, arith, refl, sym, ap, ◌∙◌, subst, Some, None}
 use Rattle.std.specs.List.{AllByRecursion}
 use Rattle.std.proofs.lemmas.Bool.Decides.{eqb_tells}
+use Rattle.std.proofs.lemmas.List.Elements.{recursion_from_All}
 use Rattle.bt_chains.specs.declared.Entry.{Entry}
 use Rattle.bt_demand.specs.Find.{bytes_of}
 use Rattle.bt_demand.specs.Holding.{is_open}
@@ -12,7 +13,8 @@ use Rattle.bt_demand.specs.Recorded.{untried}
 use Rattle.bt_demand.specs.Steps.{settle, state_for}
 use Rattle.bt_demand.specs.Tree.{Tree}
 use Rattle.bt_demand.specs.Untouched.{Untouched}
-use Rattle.bt_demand.specs.WellFormed.{WellFormed, leaves, Differ}
+use Rattle.bt_demand.specs.WellFormed.{WellFormed, leaves, nodes, Differ}
+use Rattle.bt_demand.specs.declared.routes.HoldPolicy.{HoldPolicy}
 use Rattle.bt_demand.specs.declared.derive.Derive as Derive
 use Rattle.bt_demand.specs.declared.demand.State.{State}
 use Rattle.bt_demand.specs.declared.demand.State.TheVariants.{Untried as Fresh}
@@ -93,6 +95,7 @@ sound_step gi gk ga gc gd f closed s p t cs us h w u o ut n told past unwritten 
       says = λ tells. each_map (λ c. SaysTrue f.ledger closed c) (λ c. SaysTrue (record (with_part f.ledger s p t) { chains = cs }) closed c) (ga.calls f.answerer)
           (λ c x. (over_step (λ y. y.number ≡ c.number → Says y c) is_given true f.ledger s p t w g (λ y z. says_step (open_in (slot_at f.ledger s)) p t c w.1 o (y z)) x.0, x.1)) (h.says tells);
       no_other = h.no_other;
+      answer_faults = h.answer_faults;
     }
 
 -- the sinks stay: what is said of leaves doesn't depend on the stages of holds
@@ -117,6 +120,17 @@ pub well_formed_at : (k m i : ℕ) (ps : List Part) (p : ℕ) → p < length ps 
 well_formed_at k m i [] p h f = absurd (omega arith)
 well_formed_at k m i (q ∷ ps) zero h f = f.0.well_formed
 well_formed_at k m i (q ∷ ps) (suc p) h f = well_formed_at k m i ps p (omega arith) f.1
+
+none_below : (xs : List ℕ) → AllByRecursion (λ n. n < 0) xs → xs ≡ []
+none_below [] h = refl
+none_below (x ∷ xs) h = absurd (let a = h.0 in omega arith)
+
+-- where a floor has no holds, no part of an open transaction has
+pub part_plain : {I K A C D : Type 0} (gi : Intake.Ghosts I) (gk : Sink.Ghosts K) (ga : Answerer.Ghosts A) (gc : Clock.Ghosts C) (gd : Derive.Ghosts D) (f : FloorView I K A C D) (closed : List Past) (s p : ℕ) → Sound gi gk ga gc gd f closed → IsPart f.ledger s p → f.ledger.policies ≡ [] → nodes (untried (part_tree f.ledger s p)) ≡ []
+part_plain gi gk ga gc gd f closed s p h w e =
+    let formed = well_formed_at _ _ _ (parts_in (slot_at f.ledger s)) p w.1 (h.shaped s (given_true (slot_at f.ledger s) p w.1)) in
+    let z : length (gd.policies f.outside.plan) ≡ 0 = ap (λ (x : List HoldPolicy). length x) (sym h.policies ∙ e) in
+    none_below (nodes (untried (part_tree f.ledger s p))) (subst (λ j. AllByRecursion (λ n. n < j) (nodes (untried (part_tree f.ledger s p)))) z (recursion_from_All (λ n. n < length (gd.policies f.outside.plan)) (nodes (untried (part_tree f.ledger s p))) formed.holds_known))
 
 -- the record that is put is its leaf's
 record_put : (rs : List ℕ) (o : Open) (p l k : ℕ) (r : Record) {m n : ℕ} → WellFormed m n (untried (tree_of o.parts p)) → PutsAs rs l k r.batch (tree_of o.parts p) → Some r.bytes ≡ bytes_of l (tree_of o.parts p) → p < length o.parts → r.txn ≡ o.number → r.part ≡ p → r.leaf ≡ l → IsRecordOf rs k o r

@@ -207,6 +207,7 @@ sound_take gi gk ga gc gd f closed s i c t h w free goes next =
       past_called = h.past_called;
       says = λ tells. each_map (λ y. SaysTrue f.ledger closed y) (λ y. SaysTrue (with_slot f.ledger s (Out (f.outside.taken + 1) t.moment (length t.items.list))) closed y) (ga.calls f.answerer)
           (λ y z. (over_out (λ o. o.number ≡ y.number → Says o y) is_given f.ledger s (Out (f.outside.taken + 1) t.moment (length t.items.list)) w refl z.0, z.1)) (h.says tells);
+      answer_faults = h.answer_faults;
       no_other = λ tells. each_map (λ y. (1 ≤ y.number) × (y.number ≤ f.outside.taken)) (λ y. (1 ≤ y.number) × (y.number ≤ f.outside.taken + 1)) (ga.calls f.answerer) (λ y z. (z.0, (let k = z.1 in omega arith))) (h.no_other tells);
     }
 
@@ -237,6 +238,7 @@ sound_stop gi gk ga gc gd f closed i r s h =
       past_called = h.past_called;
       says = h.says;
       no_other = h.no_other;
+      answer_faults = h.answer_faults;
       counted = h.counted;
       summed = h.summed;
       refusals = h.refusals;
@@ -309,6 +311,7 @@ sound_give gi gk ga gc gd f closed s ps h w out fit derived =
       past_called = h.past_called;
       says = λ tells. says_given (ga.calls f.answerer) f.ledger s closed (given_open (slot_at f.ledger s) ps) w refl (h.says tells) (each_none (ga.calls f.answerer) (number_in (slot_at f.ledger s)) (λ i. called tells i ∙ ap one_if (none_in i (items_in (slot_at f.ledger s)))));
       no_other = h.no_other;
+      answer_faults = h.answer_faults;
     }
 
 free_at : (w s : ℕ) → get_or (replicate w Free) s Free ≡ Free
@@ -362,5 +365,6 @@ sound_make gi gk ga gc gd f w es ep ek er few wide en et course uncounted summed
       called = λ t s e. (let z : is_free Free ≡ false = ap is_free (sym (free s)) ∙ e in cc);
       past_called = λ t. tt;
       says = λ t. subst (λ cs. AllByRecursion (λ c. SaysTrue f.ledger [] c) cs) (sym (unanswered t)) tt;
+      answer_faults = λ t z. subst (λ cs. AllByRecursion (λ c. c.failed ≡ false) cs) (sym (unanswered t)) tt;
       no_other = λ t. subst (λ cs. AllByRecursion (λ c. (1 ≤ c.number) × (c.number ≤ f.outside.taken)) cs) (sym (unanswered t)) tt;
     }

@@ -1,5 +1,6 @@
 -- The calls at the answerer, by transaction and item.
-use Rattle.std.specs.Prelude.{◌≡◌, ℕ, ◌+◌, Bool, true, false, eqb, ◌&&◌, List, [], ◌∷◌, ◌++◌, length, get_or, IsTrue, Some}
+use Rattle.std.specs.Prelude.{◌≡◌, ℕ, ◌+◌, ◌≤◌, Bool, true, false, eqb, ◌&&◌, List, [], ◌∷◌, ◌++◌, length, get_or, IsTrue, Some}
+use Rattle.std.specs.List.{AllByRecursion}
 use Rattle.bt_demand.specs.Holding.{one_if}
 use Rattle.bt_ledger.specs.Due.{open_parts}
 use Rattle.bt_ledger.specs.Open.{Open}
@@ -52,8 +53,11 @@ RefusalsFrom n i [] = Unit {0}
 RefusalsFrom n i (c ∷ cs) = IsRefusal n i c × RefusalsFrom n (i + 1) cs
 
 -- So many items of a transaction were refused for want of memory, one call for each in order: `added` are these calls. The
--- counts say so too.
+-- counts say so too. A call failed only where the answerer counted a fault.
 pub record RefusedAll {A : Type 0} (g : Answerer.Ghosts A) (j k : A) (c d : Counts) (n items : ℕ) (added : List AnswerCall) : Type 0 where
+  pub place : g.place k ≡ g.place j
+  pub faults : g.faults j ≤ g.faults k
+  pub fine : g.faults k ≡ 0 → AllByRecursion (λ x. x.failed ≡ false) added
   pub many : length added ≡ items
   pub each : RefusalsFrom n 0 added
   pub told : IsTrue (g.tells k) → IsTrue (g.tells j)
@@ -62,6 +66,9 @@ pub record RefusedAll {A : Type 0} (g : Answerer.Ghosts A) (j k : A) (c d : Coun
 
 -- one item was refused so
 pub record RefusedOne {A : Type 0} (g : Answerer.Ghosts A) (j k : A) (c d : Counts) (n i : ℕ) (call : AnswerCall) : Type 0 where
+  pub place : g.place k ≡ g.place j
+  pub faults : g.faults j ≤ g.faults k
+  pub fine : g.faults k ≡ 0 → call.failed ≡ false
   pub is : IsRefusal n i call
   pub told : IsTrue (g.tells k) → IsTrue (g.tells j)
   pub calls : IsTrue (g.tells k) → g.calls k ≡ g.calls j ++ call ∷ []

@@ -78,6 +78,8 @@ pub record Sound {I K A C D : Type 0} (gi : Intake.Ghosts I) (gk : Sink.Ghosts K
   pub past_called : IsTrue (ga.tells f.answerer) → AllByRecursion (λ p. Called (ga.calls f.answerer) p.state) closed
   pub says : IsTrue (ga.tells f.answerer) → AllByRecursion (λ c. SaysTrue f.ledger closed c) (ga.calls f.answerer)
   pub no_other : IsTrue (ga.tells f.answerer) → AllByRecursion (λ c. (1 ≤ c.number) × (c.number ≤ f.outside.taken)) (ga.calls f.answerer)
+  -- a call failed only where the answerer counted a fault
+  pub answer_faults : IsTrue (ga.tells f.answerer) → ga.faults f.answerer ≡ 0 → AllByRecursion (λ c. c.failed ≡ false) (ga.calls f.answerer)
   -- the counts are the numbers of answers and of releases
   pub counted : IsTrue (ga.tells f.answerer) → AnswersCounted (ga.calls f.answerer) f.counts
   pub summed : ReleasesSum f.releases f.counts

@@ -1,5 +1,5 @@
 use Rattle.std.proofs.Common.{true}
-use Rattle.bt_duties.proofs.Admitting.{admits_from}
+use Rattle.bt_duties.proofs.Admitting.{admits_from, place_unheld, same_unheld}
 use Rattle.bt_duties.proofs.desk.Desk.admit.Goals as goal
 
 pub returns-clause-admits : goal.returns-clause-admits
@@ -12,3 +12,9 @@ returns-clause-admits g c =
       outside = c.make_place.ensures.outside;
       duties = c.make_place.ensures.duties;
     }) c.take-answer.ensures.admits
+
+pub returns-clause-unheld : goal.returns-clause-unheld
+returns-clause-unheld g c = place_unheld c.args.self.now.floor c.make_place.new.self.floor c.take-answer.new.self.floor c.make_place.ensures.unheld c.take-answer.ensures.unheld
+
+pub returns-then-not-make_place-clause-unheld : goal.returns-then-not-make_place-clause-unheld
+returns-then-not-make_place-clause-unheld g c = λ q. same_unheld c.args.self.now.floor c.make_place.new.self.floor (c.make_place.ensures.unheld q)

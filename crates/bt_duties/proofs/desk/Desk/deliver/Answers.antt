@@ -1,4 +1,4 @@
-use Rattle.std.proofs.Common.{◌≢◌, ◌<◌, sym, subst, length, IfOk, ◌≡◌, []}
+use Rattle.std.proofs.Common.{◌≢◌, ◌<◌, sym, subst, length, IfErr, IfOk, ◌≡◌, []}
 use Rattle.bt_duties.specs.DeskView.{DeskView}
 use Rattle.bt_duties.specs.Duties.{duty_at}
 use Rattle.bt_demand.specs.Parts.{parts_of}
@@ -7,7 +7,7 @@ use Rattle.bt_duties.proofs.Standings.{standing_delivered}
 use Rattle.bt_ledger.specs.Ledger.{slot_at, number_in}
 use Rattle.bt_moves.specs.Moves.{Delivered}
 use Rattle.bt_sound.specs.Transactions.{Derived}
-use Rattle.bt_sound.specs.Turns.{DeliveredInTurn}
+use Rattle.bt_sound.specs.Turns.{DeliveredInTurn, RefusedInTurn}
 use Rattle.bt_duties.proofs.desk.Desk.deliver.Goals as goal
 
 pub settle-requires-clause-derived : goal.settle-requires-clause-derived
@@ -33,3 +33,11 @@ returns-clause-turn g c =
     subst (λ (v : DeskView _ _ _ _ _). IfOk c.args.routes (λ r. v.floor.ledger.policies ≡ [] → DeliveredInTurn g.K.Sink g.A.Answerer (duty_at v.duties c.args.duty).number (parts_of r.parts.list) v.floor c.settle.new.self)) c.self.view_is
     (subst (λ k. IfOk c.args.routes (λ r. c.self.inside.floor.ledger.policies ≡ [] → DeliveredInTurn g.K.Sink g.A.Answerer k (parts_of r.parts.list) c.self.inside.floor c.settle.new.self)) n.number
     (subst (λ (x : Duty). IfOk c.args.routes (λ r. c.self.inside.floor.ledger.policies ≡ [] → DeliveredInTurn g.K.Sink g.A.Answerer (number_in (slot_at c.self.inside.floor.ledger x.slot)) (parts_of r.parts.list) c.self.inside.floor c.settle.new.self)) c.entry-items.ensures c.settle.ensures.turn))
+
+pub returns-clause-refusal : goal.returns-clause-refusal
+returns-clause-refusal g c =
+    let b = subst (λ (v : DeskView _ _ _ _ _). (duty_at v.duties c.args.duty).number ≢ 0) (sym c.self.view_is) c.requires.out in
+    let n = c.self.invariant.dutiful.known c.args.duty b in
+    subst (λ (v : DeskView _ _ _ _ _). IfErr c.args.routes (λ _. RefusedInTurn g.A.Answerer (duty_at v.duties c.args.duty).number (duty_at v.duties c.args.duty).items v.floor c.settle.new.self)) c.self.view_is
+    (subst (λ k. IfErr c.args.routes (λ _. RefusedInTurn g.A.Answerer k (duty_at c.self.inside.duties.items c.args.duty).items c.self.inside.floor c.settle.new.self)) n.number
+    (subst (λ (x : Duty). IfErr c.args.routes (λ _. RefusedInTurn g.A.Answerer (number_in (slot_at c.self.inside.floor.ledger x.slot)) x.items c.self.inside.floor c.settle.new.self)) c.entry-items.ensures c.settle.ensures.refusal))

@@ -1,4 +1,4 @@
-use Rattle.std.proofs.Common.{◌≡◌, ◌≢◌, arith, refl, sym, ◌∙◌, subst}
+use Rattle.std.proofs.Common.{[], ◌≡◌, ◌≢◌, arith, refl, sym, ◌∙◌, subst}
 use Rattle.bt_duties.specs.DeskView.{DeskView}
 use Rattle.bt_duties.specs.Duties.{duty_at}
 use Rattle.bt_duties.proofs.Standings.{any_out, none_busy, place_flushed}
@@ -36,3 +36,6 @@ returns-clause-room g c = λ _.
     let w = c.self.invariant.window in
     let s = c.self.invariant.some in
     omega arith
+
+pub returns-clause-unheld : goal.returns-clause-unheld
+returns-clause-unheld g c = subst (λ (v : DeskView _ _ _ _ _). v.floor.ledger.policies ≡ [] → c.flush_all.new.self ≡ v.floor) c.self.view_is c.flush_all.ensures.unheld

@@ -3,7 +3,7 @@ use Rattle.bt_demand.specs.Find.{begun}
 use Rattle.bt_demand.specs.Next.{todo}
 use Rattle.bt_demand.specs.Steps.{settle, state_for}
 use Rattle.bt_demand.specs.declared.todo.Todo.TheVariants.{Put}
-use Rattle.bt_ledger.specs.Ledger.{slot_at, part_tree, is_given, number_in}
+use Rattle.bt_ledger.specs.Ledger.{slot_at, part_tree, parts_in, is_given, number_in}
 use Rattle.bt_moves.specs.Moves.{left_to_do, StepAt}
 use Rattle.bt_demand.proofs.Flushing.{late_next}
 use Rattle.bt_moves.proofs.Keeping.{but_step, but_keeps, but_closes, keeps_but, begun_room, part_stays, but_same, given_true}
@@ -18,8 +18,10 @@ use Rattle.bt_moves.proofs.Settling.{settled_put}
 use Rattle.bt_sound.specs.Owned.{BatchFits}
 use Rattle.bt_sound.proofs.Owned.{fits_later, rise_same, rise_joins}
 use Rattle.bt_ledger.specs.Calls.{TodoFits}
-use Rattle.bt_sound.specs.Turns.{RecordsInTurn, SinksAdd}
-use Rattle.bt_sound.proofs.Turns.{no_hold, only_step, puts_again, turned_part, only_same, sinks_same}
+use Rattle.bt_demand.proofs.Moves.{settle_steps}
+use Rattle.bt_demand.proofs.Shapes.{moves-leaves}
+use Rattle.bt_sound.specs.Turns.{AtMostOne, SinksAdd}
+use Rattle.bt_sound.proofs.Turns.{no_hold, only_step, puts_again, Putting, tree_stepped, turned_part, only_same, sinks_same}
 use Rattle.bt_floor.proofs.floor.Floor.+settling.Goals as goal
 
 pub settle_part-put-accepted-requires-clause-puts : goal.settle_part-put-accepted-requires-clause-puts
@@ -59,10 +61,16 @@ settle_part-loop-self-preserved-in-Put-1 g t c =
       rise = rise_same c.args.self.now.releases c.loop-self.self.releases c.put-accepted.new.self.releases c.loop-self.invariant.rise c.put-accepted.ensures.releases;
       outside = c.put-accepted.ensures.outside ∙ c.loop-self.invariant.outside;
       turn = λ q.
-          (let i = c.loop-self.invariant.turn q in (
-            only_step l c.put-accepted.new.self.ledger (slot_at c.args.self.now.ledger c.args.slot) c.args.slot c.args.part u part e i.0,
+          (let i = c.loop-self.invariant.turn q in
+          let plain = c.put-accepted.ensures.plain (c.loop-self.invariant.others.policies ∙ q) in
+          let same = moves-leaves 0 (part_tree l c.args.slot c.args.part) (settle c.in-Some-Put.leaf (state_for c.put-accepted.result) (part_tree l c.args.slot c.args.part)) (settle_steps 0 c.in-Some-Put.leaf (state_for c.put-accepted.result) (part_tree l c.args.slot c.args.part)) in
+          let adds = subst (λ n. SinksAdd g.K.Sink (AtMostOne n c.args.part c.in-Some-Put.leaf) c.loop-self.self.sinks c.put-accepted.new.self.sinks) i.0.same.number c.put-accepted.ensures.adds in
+          let puts = puts_again g.K.Sink c.args.self.now.sinks c.loop-self.self.sinks c.put-accepted.new.self.sinks (parts_in (slot_at c.args.self.now.ledger c.args.slot)) (number_in (slot_at c.args.self.now.ledger c.args.slot)) c.args.part c.in-Some-Put.leaf c.in-Some-Put.sink c.put-accepted.result (part_tree l c.args.slot c.args.part)
+          (i.0.same.same_leaves c.args.part) plain next i.1.0 adds in
+          let here : part_tree c.put-accepted.new.self.ledger c.args.slot c.args.part ≡ settle c.in-Some-Put.leaf (state_for c.put-accepted.result) (part_tree l c.args.slot c.args.part) = ap (λ k. part_tree k c.args.slot c.args.part) e ∙ tree_stepped l c.args.slot c.args.part u part in (
+            only_step l c.put-accepted.new.self.ledger (slot_at c.args.self.now.ledger c.args.slot) c.args.slot c.args.part u part same e i.0,
             (
-              puts_again g.K.Sink c.args.self.now.sinks c.loop-self.self.sinks c.put-accepted.new.self.sinks (number_in (slot_at c.args.self.now.ledger c.args.slot)) c.args.part i.1.0 (subst (λ n. SinksAdd g.K.Sink (RecordsInTurn n c.args.part (c.args.part + 1)) c.loop-self.self.sinks c.put-accepted.new.self.sinks) i.0.same.number c.put-accepted.ensures.adds),
+              subst (λ t. SinksAdd g.K.Sink (Putting (parts_in (slot_at c.args.self.now.ledger c.args.slot)) (number_in (slot_at c.args.self.now.ledger c.args.slot)) c.args.part t) c.args.self.now.sinks c.put-accepted.new.self.sinks) (sym here) puts,
               c.put-accepted.ensures.answerer ∙ i.1.1,
             ),
           ));
@@ -147,7 +155,7 @@ settle_part-returns-in_default-clause-outs g t c = outs_joins c.args.self.now.le
 pub settle_part-returns-in_default-clause-turn : goal.settle_part-returns-in_default-clause-turn
 settle_part-returns-in_default-clause-turn g t c = λ q rest.
     let i = c.loop-self.invariant.turn q in
-    turned_part g.K.Sink g.A.Answerer c.args.slot c.args.part c.args.self.now c.loop-self.self c.finish_part.new.self rest i.0 i.1.0 i.1.1 c.finish_part.ensures.sinks c.finish_part.ensures.adds c.finish_part.ensures.same (c.finish_part.ensures.policies ∙ c.loop-self.invariant.others.policies)
+    turned_part g.K.Sink g.A.Answerer c.args.slot c.args.part (part_tree c.loop-self.self.ledger c.args.slot c.args.part) c.args.self.now c.loop-self.self c.finish_part.new.self rest i.0 i.1.0 i.1.1 c.finish_part.ensures.sinks c.finish_part.ensures.adds c.finish_part.ensures.same (c.finish_part.ensures.policies ∙ c.loop-self.invariant.others.policies)
 
 pub settle_part-loop-self-init : goal.settle_part-loop-self-init
 settle_part-loop-self-init g t c =
@@ -164,7 +172,7 @@ settle_part-loop-self-init g t c =
       rise = λ n. omega arith;
       turn = λ q. (
         only_same c.args.part (slot_at l c.args.slot) (given_true (slot_at l c.args.slot) c.args.part c.requires.part.1),
-        (sinks_same g.K.Sink (RecordsInTurn (number_in (slot_at l c.args.slot)) c.args.part (c.args.part + 1)) c.args.self.now.sinks tt, refl),
+        (sinks_same g.K.Sink (Putting (parts_in (slot_at l c.args.slot)) (number_in (slot_at l c.args.slot)) c.args.part (part_tree l c.args.slot c.args.part)) c.args.self.now.sinks ((tt, tt), tt), refl),
       );
       no_more = omega arith;
     }

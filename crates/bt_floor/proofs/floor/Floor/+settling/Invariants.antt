@@ -1,11 +1,12 @@
 use Rattle.std.proofs.Common.{◌≡◌, ℕ, ◌+◌, ◌≤◌, ◌*◌, Some, true, []}
 use Rattle.bt_demand.specs.Find.{begun}
 use Rattle.bt_moves.specs.Moves.{Keeps, KeepsBut, left_to_do, LateKeeps, LateKeepsBut}
-use Rattle.bt_ledger.specs.Ledger.{part_tree, Roomy, slot_at, is_given, number_in}
+use Rattle.bt_ledger.specs.Ledger.{part_tree, parts_in, Roomy, slot_at, is_given, number_in}
 use Rattle.bt_moves.specs.Moves.{RipensNone, BeginsNone, BeginsBut, OutStays}
 use Rattle.bt_moves.specs.Resting.{AllSettled}
 use Rattle.bt_sound.specs.Owned.{BatchFits, ReleasesRise}
-use Rattle.bt_sound.specs.Turns.{OnlyPart, RecordsInTurn, SinksAdd}
+use Rattle.bt_sound.specs.Turns.{OnlyPart, SinksAdd}
+use Rattle.bt_sound.proofs.Turns.{Putting}
 use Rattle.bt_floor.proofs.floor.Floor.+settling.Given as goal
 
 abbrev pub decreases-release : goal.decreases-release
@@ -42,7 +43,7 @@ invariant-settle_part-loop-self g l = record {
   outs : OutStays l.initial.self.ledger l.self.ledger;
   calm : RipensNone l.initial.self.ledger l.self.ledger;
   outside : l.self.outside ≡ l.initial.self.outside;
-  turn : l.initial.self.ledger.policies ≡ [] → OnlyPart l.part (slot_at l.initial.self.ledger l.slot) (slot_at l.self.ledger l.slot) × (SinksAdd g.K.Sink (RecordsInTurn (number_in (slot_at l.initial.self.ledger l.slot)) l.part (l.part + 1)) l.initial.self.sinks l.self.sinks × (l.self.answerer ≡ l.initial.self.answerer));
+  turn : l.initial.self.ledger.policies ≡ [] → OnlyPart l.part (slot_at l.initial.self.ledger l.slot) (slot_at l.self.ledger l.slot) × (SinksAdd g.K.Sink (Putting (parts_in (slot_at l.initial.self.ledger l.slot)) (number_in (slot_at l.initial.self.ledger l.slot)) l.part (part_tree l.self.ledger l.slot l.part)) l.initial.self.sinks l.self.sinks × (l.self.answerer ≡ l.initial.self.answerer));
   no_more : left_to_do l.self.ledger ≤ left_to_do l.initial.self.ledger;
 }
 

@@ -8,11 +8,11 @@ use Rattle.bt_ledger.specs.declared.slot.Slot.TheVariants.{Free}
 use Rattle.bt_moves.specs.Moves.{Answering}
 use Rattle.bt_sound.specs.View.{FloorView}
 use Rattle.bt_moves.proofs.Moves.{answering_with}
-use Rattle.bt_sound.proofs.Answered.{sound_answer, sound_memory}
+use Rattle.bt_sound.proofs.Answered.{fine_answer, sound_answer, sound_memory}
 use Rattle.bt_sound.proofs.Counting.{answer_memory}
 use Rattle.bt_sound.specs.Counting.{answer_with}
 use Rattle.bt_sound.specs.Turns.{AnswererAdds, CallsFor}
-use Rattle.bt_sound.proofs.Turns.{due_before}
+use Rattle.bt_sound.proofs.Turns.{due_before, due_gone}
 use Rattle.bt_floor.proofs.floor.Floor.answer.Goals as goal
 
 pub invariant_of-self : goal.invariant_of-self
@@ -25,7 +25,7 @@ invariant_of-self g c =
     rw c.answered.ensures (
       c.self.invariant.0,
       sound_memory _ _ _ _ _ _ _ c.count_answer.new.counts.refused_memory same
-          (sound_answer _ _ _ _ _ _ c.self.invariant.0 c.args.slot c.args.item _ _ _ c.self.invariant.1 given due.0 c.number-number.ensures refl c.verdict_on-verdict.ensures c.why-why.ensures c.answer.ensures.told c.answer.ensures.adds counted),
+          (sound_answer _ _ _ _ _ _ c.self.invariant.0 c.args.slot c.args.item _ _ _ c.self.invariant.1 given due.0 c.number-number.ensures refl c.verdict_on-verdict.ensures c.why-why.ensures c.answer.ensures.told c.answer.ensures.adds c.answer.ensures.counted (fine_answer _ _ _ c.answer.ensures.failed) counted),
     )
 
 pub returns-clause-answering : goal.returns-clause-answering
@@ -59,7 +59,7 @@ returns-clause-adds g c =
       place = c.answer.ensures.placed;
       faults = c.answer.ensures.counted;
       told = c.answer.ensures.told;
-      calls = λ t. (_, (c.answer.ensures.adds t, ((c.number-number.ensures, refl), tt)));
+      calls = λ t. (_, (c.answer.ensures.adds t, ((c.number-number.ensures, refl), refl)));
     })
 
 pub returns-clause-dues : goal.returns-clause-dues
@@ -69,3 +69,11 @@ returns-clause-dues g c = λ i d.
     let due : LeastDue (open_in (slot_at c.self.inside.ledger c.args.slot)) (Some c.args.item) = subst (λ k. LeastDue (open_in (slot_at k c.args.slot)) (Some c.args.item)) (sym l) c.requires.due in
     let e = ap (λ k. slot_at k c.args.slot) c.answered.ensures ∙ get_or-set_same c.self.inside.ledger.slots c.args.slot (Given (record (open_in (slot_at c.self.inside.ledger c.args.slot)) { answered = set (answered_in (slot_at c.self.inside.ledger c.args.slot)) c.args.item true })) Free given.0 in
     subst (λ k. IsDue (open_in (slot_at k c.args.slot)) i) l (due_before (open_in (slot_at c.self.inside.ledger c.args.slot)) c.args.item i due.0.0 (subst (λ y. IsDue (open_in y) i) e d))
+
+pub returns-clause-done : goal.returns-clause-done
+returns-clause-done g c = λ d.
+    let l = ap (λ (v : FloorView _ _ _ _ _). v.ledger) c.self.view_is in
+    let given : IsGiven c.self.inside.ledger c.args.slot = subst (λ k. IsGiven k c.args.slot) (sym l) c.requires.given in
+    let due : LeastDue (open_in (slot_at c.self.inside.ledger c.args.slot)) (Some c.args.item) = subst (λ k. LeastDue (open_in (slot_at k c.args.slot)) (Some c.args.item)) (sym l) c.requires.due in
+    let e = ap (λ k. slot_at k c.args.slot) c.answered.ensures ∙ get_or-set_same c.self.inside.ledger.slots c.args.slot (Given (record (open_in (slot_at c.self.inside.ledger c.args.slot)) { answered = set (answered_in (slot_at c.self.inside.ledger c.args.slot)) c.args.item true })) Free given.0 in
+    due_gone (open_in (slot_at c.self.inside.ledger c.args.slot)) c.args.item due.0.0 (subst (λ y. IsDue (open_in y) c.args.item) e d)

@@ -1,16 +1,18 @@
-use Rattle.std.proofs.Common.{arith, refl, sym, ap, subst, ◌+◌}
+use Rattle.std.proofs.Common.{◌≡◌, arith, refl, sym, ap, subst, ◌+◌, []}
 use Rattle.bt_demand.specs.Holding.{is_open}
 use Rattle.bt_demand.specs.Steps.{state_for}
-use Rattle.bt_ledger.specs.Ledger.{slot_at, part_tree, parts_in, IsPart, number_in}
+use Rattle.bt_ledger.specs.Ledger.{Ledger, slot_at, part_tree, parts_in, IsPart, number_in}
 use Rattle.bt_demand.specs.Reached.{IsNext}
+use Rattle.bt_demand.specs.Recorded.{untried}
+use Rattle.bt_demand.specs.WellFormed.{nodes}
 use Rattle.bt_sound.specs.Owned.{PutsAs}
 use Rattle.bt_sound.specs.View.{FloorView}
 use Rattle.bt_moves.proofs.Keeping.{given_true}
 use Rattle.bt_sound.proofs.Owned.{puts_next}
-use Rattle.bt_sound.proofs.Steps.{sound_put, well_formed_at}
+use Rattle.bt_sound.proofs.Steps.{part_plain, sound_put, well_formed_at}
 use Rattle.bt_leaves.proofs.NextLeaf.{to_put_bytes, put_in_range, next_open}
 use Rattle.bt_leaves.proofs.Kept.{untried_settle}
-use Rattle.bt_sound.specs.Turns.{RecordsInTurn, SinksAdd}
+use Rattle.bt_sound.specs.Turns.{AtMostOne, SinksAdd}
 use Rattle.bt_sound.proofs.Turns.{put_adds}
 use Rattle.bt_floor.proofs.floor.Floor.put.Goals as goal
 
@@ -47,5 +49,11 @@ invariant_of-self g c =
 
 pub returns-clause-adds : goal.returns-clause-adds
 returns-clause-adds g c =
-    subst (λ (v : FloorView _ _ _ _ _). SinksAdd g.K.Sink (RecordsInTurn (number_in (slot_at v.ledger c.args.slot)) c.args.part (c.args.part + 1)) v.sinks c.write-accepted.new.sinks.items) c.self.view_is
-    (put_adds g.K.Sink c.self.inside.sinks.items c.write-accepted.new.sinks.items c.args.sink _ c.write-accepted.result (number_in (slot_at c.self.inside.ledger c.args.slot)) c.args.part c.write-accepted.ensures c.number-number.ensures refl)
+    subst (λ (v : FloorView _ _ _ _ _). SinksAdd g.K.Sink (AtMostOne (number_in (slot_at v.ledger c.args.slot)) c.args.part c.args.leaf) v.sinks c.write-accepted.new.sinks.items) c.self.view_is
+    (put_adds g.K.Sink c.self.inside.sinks.items c.write-accepted.new.sinks.items c.args.sink _ c.write-accepted.result (number_in (slot_at c.self.inside.ledger c.args.slot)) c.args.part c.args.leaf c.write-accepted.ensures c.number-number.ensures refl refl)
+
+pub returns-clause-plain : goal.returns-clause-plain
+returns-clause-plain g c =
+    let l = ap (λ (v : FloorView _ _ _ _ _). v.ledger) c.self.view_is in
+    let part : IsPart c.self.inside.ledger c.args.slot c.args.part = subst (λ k. IsPart k c.args.slot c.args.part) (sym l) c.requires.part in
+    subst (λ (k : Ledger). k.policies ≡ [] → nodes (untried (part_tree k c.args.slot c.args.part)) ≡ []) l (part_plain _ _ _ _ _ _ c.self.invariant.0 c.args.slot c.args.part c.self.invariant.1 part)
