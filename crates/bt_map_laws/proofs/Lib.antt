@@ -1,0 +1,7 @@
+pub mod Agreement
+pub mod Fuel
+pub mod Linted
+pub mod Members
+pub mod Nested
+pub mod Numbered
+pub mod Steady
