@@ -8,7 +8,7 @@ use Rattle.bt_reports.specs.Report.{report_lines}
 use Rattle.bt_pipelines.proofs.launch.launch.Goals as goal
 
 pub make-requires-clause-untaken : goal.make-requires-clause-untaken
-make-requires-clause-untaken g c = untaken g.W.S.Source c.in-Ok.opening.sources.list c.in-Ok.ensures.fresh.sources
+make-requires-clause-untaken g c = λ κs within. untaken g.W.S.Source c.in-Ok.opening.sources.list c.in-Ok.ensures.fresh.sources
 
 pub returns-in-Ok-finish : goal.returns-in-Ok-finish
 returns-in-Ok-finish g c =
