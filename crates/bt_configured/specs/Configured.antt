@@ -13,7 +13,6 @@ use Rattle.bt_lines.specs.Lines.{stop}
 use Rattle.bt_openings.specs.Openings.{FailedAt}
 use Rattle.bt_openings.specs.Plan as opened
 use Rattle.bt_openings.specs.declared.stop.Stop.TheVariants as stops
-use Rattle.bt_parts.proofs.Fits.{fit}
 use Rattle.bt_parts.specs.Parts.{parts_by}
 use Rattle.bt_pipelines.specs.Launched.{HaltTells, RanTells}
 use Rattle.bt_plan.specs.Compiled.{IsFaultOf, IsPlanOf}
@@ -56,7 +55,6 @@ as_plan = record {
   parts = λ p t. parts_by p.procs p.output t.moment t.items.list;
   sinks = λ p. length p.sinks.list;
   policies = λ p. p.holds.list;
-  parts_fit = λ p t. fit p.procs p.output (length p.sinks.list) (length p.holds.list) t.moment t.items.list p.stands;
 }
 
 -- all openings of a run of this plan over these lines, in their order
