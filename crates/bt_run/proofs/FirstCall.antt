@@ -1,8 +1,7 @@
 -- The reading of the configuration, as a run's first call.
-use Rattle.std.proofs.Common.{◌≡◌, ◌≢◌, ◌≤◌, ℕ, suc, List, [], ◌∷◌, ◌++◌, IsTrue, Option, Result, Ok, Err, refl, sym, ap, ◌∙◌, subst, arith, inl, inr, append_assoc, append-nil}
+use Rattle.std.proofs.Common.{◌≡◌, ◌≢◌, ◌≤◌, ℕ, List, [], ◌∷◌, ◌++◌, IsTrue, Option, Result, Ok, Err, refl, sym, ap, ◌∙◌, subst, arith, inl, inr, append_assoc, append-nil}
 use Rattle.bt_commands.specs.Outside.{SaysOnly}
 use Rattle.bt_config.specs.Violations.{AreViolations}
-use Rattle.bt_config.specs.declared.reading.Config.{Config}
 use Rattle.bt_config_file.specs.Reading.{FileSays, ReadCounts, ReadTells, ReadsLinted, config_reading, reading_lines}
 use Rattle.bt_config_file.specs.declared.halt.ConfigHalt.{ConfigHalt}
 use Rattle.bt_config_file.specs.declared.halt.ConfigHalt.TheVariants as unread
@@ -10,8 +9,8 @@ use Rattle.bt_config_file.specs.declared.linted.Linted.{Linted}
 use Rattle.bt_ports.specs.World.{Tale}
 use Rattle.bt_ports.specs.declared.parts.Asked.{Asked}
 use Rattle.bt_ports.specs.declared.world.World as World
-use Rattle.bt_run.specs.Form.{FormSays, HasBuiltForm, HasParts, UnfitSays, names_parts}
-use Rattle.bt_run.specs.Inside.{CallCounts, Fits, HaltTells, IsUnfit, MakesCall, Reached, ReadsAlone, Refuses, halt_lines_at, halt_of, refused_lines, unfit_said}
+use Rattle.bt_run.specs.Form.{FormSays, HasBuiltForm, UnfitSays, names_parts}
+use Rattle.bt_run.specs.Inside.{CallCounts, Fits, HaltTells, IsUnfit, MakesCall, Refuses, halt_lines_at, halt_of, refused_lines, unfit_said}
 use Rattle.bt_run.specs.Report.{unfit_lines}
 use Rattle.bt_run.specs.declared.halt.Halt.{Halt}
 use Rattle.bt_run.specs.declared.halt.Halt.TheVariants as halt
@@ -67,11 +66,12 @@ unfit-says linted (unfit.Lints lints) file says is = (
     record { config = linted.config.doc; in_file = says.0; violations = subst (AreViolations linted.config.doc) (sym is.0) says.1; named = refl },
   ),
 )
-unfit-says linted (unfit.Parts c) file says is = subst (λ (x : Config). HasParts file x.doc) (sym is.1) (record {
+unfit-says linted unfit.NotBuilt file says is = record {
+  config = linted.config.doc;
   in_file = says.0;
   violations = subst (AreViolations linted.config.doc) is.0 says.1;
-  named = is.2;
-})
+  named = is.1;
+}
 
 pub refused-says : (linted : Linted) (u : Unfit) (h : Halt) (file : Option (List ℕ)) → FileSays (Ok linted) file → IsUnfit linted u → Refuses u h → FormSays (Err h) file
 refused-says linted u (halt.Failed k) file says is refuses = absurd refuses
@@ -81,7 +81,7 @@ refused-says linted u halt.NoMemory file says is refuses = tt
 unfit-lines : (linted : Linted) (u : Unfit) → IsUnfit linted u → unfit_said u ≡ unfit_lines u
 unfit-lines linted (unfit.Refused x) is = absurd is
 unfit-lines linted (unfit.Lints lints) is = refl
-unfit-lines linted (unfit.Parts c) is = refl
+unfit-lines linted unfit.NotBuilt is = refl
 
 refused-lines : (linted : Linted) (u : Unfit) (call : Asked) (h : Halt) → IsUnfit linted u → Refuses u h → refused_lines h ≡ halt_lines_at call h
 refused-lines linted u call (halt.Failed k) is refuses = absurd refuses
@@ -141,22 +141,3 @@ module _ {W S K A C : Type 0} (g : World.Ghosts W S K A C) (config : List ℕ) w
         says.said s ∙ ap (λ (ls : List (List ℕ)). ls ++ refused_lines h) (ap (λ (x : Tale _ _). x.lines) (read-call call linted (g.tale a) (g.tale b) (r.tells (says.told.0 t))))
         ∙ ap (λ (ls : List (List ℕ)). (g.tale a).lines ++ ls) (refused-lines linted u call h is refuses);
   }
-
--- ---- a run that its configuration kept from beginning
-
-module _ {W S K A C : Type 0} (g : World.Ghosts W S K A C) (call : Asked) where
-  -- its first call was its only one
-  pub first-alone : {T : Type 0} (left : List ℕ) (h : Halt) (a b : W) → MakesCall {T = T} g 0 call left (Err h) a b → ReadsAlone g call h a b
-  first-alone left (halt.Failed k) a b m = tt
-  first-alone left (halt.Config u) a b m = record { counted = (m.counted.0, m.counted.1); only = λ t. (m.tells t).1 }
-  first-alone left halt.NoMemory a b m = tt
-
-  -- and no call behind it was
-  pub later-alone : {T : Type 0} (n m : ℕ) (calls : List Asked) (later : Asked) (left rest : List ℕ) (h : Halt) (a b d : W) → Reached g m calls left a b → MakesCall {T = T} g (suc n) later rest (Err h) b d
-      → ReadsAlone g call h a d
-  later-alone n m calls later left rest (halt.Failed k) a b d r made = tt
-  later-alone n m calls later left rest (halt.Config u) a b d r made = record {
-    counted = (omega (arith, r.counted.0, made.counted.0), omega (arith, r.counted.1, made.counted.1));
-    only = λ t. absurd (omega (arith, (made.tells t).0));
-  }
-  later-alone n m calls later left rest halt.NoMemory a b d r made = tt

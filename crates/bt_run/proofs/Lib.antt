@@ -1,7 +1,6 @@
 pub mod Carrying
 pub mod FirstCall
 pub mod HandedBack
-pub mod Parts
 pub mod Plans
 pub mod Tales
 pub mod Whole

@@ -1,4 +1,4 @@
--- Which configurations run without parts, and which by them.
+-- Which configurations run today.
 use Rattle.std.specs.Prelude.{◌≡◌, ◌≢◌, ◌||◌, ℕ, zero, suc, Bool, true, false, is_some, List, [], Option, Result, Ok, Err, codes}
 use Rattle.bt_config.specs.Violations.{AreViolations}
 use Rattle.bt_config_file.specs.Reading.{HasConfig, RefusalSays}
@@ -35,17 +35,11 @@ pub record HasLinted (file : Option (List ℕ)) (lints : List Lint) (parts : Boo
 abbrev pub HasBuiltForm : Option (List ℕ) → Type 0
 HasBuiltForm file = HasLinted file [] false
 
--- the file has this configuration, which has no lint and names its parts
-pub record HasParts (file : Option (List ℕ)) (config : Val) : Type 0 where
-  pub in_file : HasConfig file config
-  pub violations : AreViolations config []
-  pub named : names_parts config ≡ true
-
--- why the file's configuration isn't run, or that it runs by its parts
+-- why the file's configuration isn't run
 abbrev pub UnfitSays : Unfit → Option (List ℕ) → Type 0
 UnfitSays (unfit.Refused r) file = RefusalSays r file
 UnfitSays (unfit.Lints lints) file = (lints ≢ []) × ((parts : Bool) × HasLinted file lints parts)
-UnfitSays (unfit.Parts c) file = HasParts file c.doc
+UnfitSays unfit.NotBuilt file = HasLinted file [] true
 
 -- what the told file says of a run: one that began, and one of which an opening failed, has a configuration that runs
 abbrev pub FormSays : Result Report Halt → Option (List ℕ) → Type 0

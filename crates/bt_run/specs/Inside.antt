@@ -47,13 +47,13 @@ Fits linted = (linted.lints ≡ []) × (names_parts linted.config.doc ≡ false)
 abbrev pub IsUnfit : Linted → Unfit → Type 0
 IsUnfit linted (unfit.Refused r) = ⊥
 IsUnfit linted (unfit.Lints lints) = (lints ≡ linted.lints) × (lints ≢ [])
-IsUnfit linted (unfit.Parts c) = (linted.lints ≡ []) × (c ≡ linted.config) × (names_parts linted.config.doc ≡ true)
+IsUnfit linted unfit.NotBuilt = (linted.lints ≡ []) × (names_parts linted.config.doc ≡ true)
 
 -- what is said of it, of which a reading has said the first, or nothing where memory was wanting
 abbrev pub unfit_said : Unfit → List (List ℕ)
 unfit_said (unfit.Refused r) = []
 unfit_said (unfit.Lints lints) = unfit_lines (unfit.Lints lints)
-unfit_said (unfit.Parts c) = []
+unfit_said unfit.NotBuilt = unfit_lines unfit.NotBuilt
 
 abbrev pub said_of : Result (Unit {0}) NoMemory → Unfit → List (List ℕ)
 said_of (Ok x) u = unfit_said u
@@ -112,17 +112,6 @@ pub record MakesCall {W S K A C T : Type 0} (g : World.Ghosts W S K A C) (k : �
   pub counts : CallCounts result (g.file_faults a) (g.file_faults b) (g.open_faults a) (g.open_faults b)
   pub tells : IsTrue (g.tells b) → CallTells k call left result (g.tale a) (g.tale b)
   pub lines : IsTrue (g.tells b) → IsTrue (g.tells_lines b) → (g.tale b).lines ≡ (g.tale a).lines ++ call_lines call result
-
--- what a run that its configuration kept from beginning leaves: that configuration was read, and of all else that the world tells
--- only lines of `err` changed
-pub record Alone {W S K A C : Type 0} (g : World.Ghosts W S K A C) (call : Asked) (a b : W) : Type 0 where
-  pub counted : (g.file_faults a ≤ g.file_faults b) × (g.open_faults a ≤ g.open_faults b)
-  pub only : IsTrue (g.tells b) → g.tale b ≡ record (g.tale a) { calls = (g.tale a).calls ++ call ∷ []; lines = (g.tale b).lines }
-
-abbrev pub ReadsAlone : {W S K A C : Type 0} → World.Ghosts W S K A C → Asked → Halt → W → W → Type 0
-ReadsAlone g call (halt.Failed k) a b = Unit {0}
-ReadsAlone g call (halt.Config u) a b = Alone g call a b
-ReadsAlone g call halt.NoMemory a b = Unit {0}
 
 -- the first n calls of a plan were answered, and have left this of the standard input
 pub record Reached {W S K A C : Type 0} (g : World.Ghosts W S K A C) (n : ℕ) (calls : List Asked) (left : List ℕ) (a b : W) : Type 0 where

@@ -43,11 +43,11 @@ releases_line r =
 abbrev pub report_lines : Report → List (List ℕ)
 report_lines r = fault_lines r.ending r.answer_faults ++ taken_line r ∷ releases_line r ∷ []
 
--- what is said of a configuration that isn't run: its lints, a line each. One that names its parts runs by them
+-- what is said of a configuration that isn't run: its lints, a line each
 abbrev pub unfit_lines : Unfit → List (List ℕ)
 unfit_lines (unfit.Refused r) = refusal_line r ∷ []
 unfit_lines (unfit.Lints lints) = map line lints
-unfit_lines (unfit.Parts c) = []
+unfit_lines unfit.NotBuilt = codes "config: not built" ∷ []
 
 -- what is said where a run of these calls halted: of the call that failed its name
 abbrev pub halt_lines : Halt → List Asked → List (List ℕ)

@@ -1,21 +1,18 @@
 //! The command `run`.
-ghost use Rattle.std.specs.Prelude.{◌≡◌, ◌∷◌, [], None, Some, Result, IfErr, IfOk, IsTrue, IsSome, option_map, true};
+ghost use Rattle.std.specs.Prelude.{◌≡◌, ◌∷◌, [], None, Some, Result, IfOk, IsTrue, IsSome, option_map, true};
 ghost use Rattle.bt_desk.specs.Calls.{IsUnread};
 ghost use Rattle.bt_desk.specs.Stands.{Stands};
 ghost use Rattle.bt_commands.specs.Inputs.{Standing};
-ghost use Rattle.bt_config_file.specs.Reading.{config_reading};
 ghost use Rattle.bt_ports.specs.World.{once_more};
 ghost use Rattle.bt_commands.specs.Outside.{StillTold, SameCounts, over};
-ghost use Rattle.bt_run.specs.Inside.{Begun, IsBegun, IsFresh, ReadsAlone, Started, Starts, Completes};
-ghost use Rattle.bt_run.specs.Parts.{CommandPromise};
-ghost use Rattle.bt_run.specs.Promise.{RunEnds};
+ghost use Rattle.bt_run.specs.Inside.{Begun, IsBegun, IsFresh, Started, Starts, Completes};
+ghost use Rattle.bt_run.specs.Promise.{RunEnds, RunPromise};
 ghost use Rattle.bt_run.specs.declared.halt.Halt.{Halt};
 
 use crate::carry::carry;
 use crate::configuration::read_config;
 use crate::halt::Halt;
 use crate::openings::{Opening, open_answers, open_sink, open_source, without_memory};
-use crate::parts::follow;
 use crate::report::{report_status, say_report};
 use bt_commands::input::LineInput;
 use bt_commands::limits::INPUT_BOUND;
@@ -67,7 +64,6 @@ fn start<W: World>(
     world: &mut W,
 ) -> Result<Desk<LineInput<W::S>, W::K, W::A, W::C>, Halt>
     ensures starts { Starts ⟦<W as World>⟧ config.now (option_map (λ path. path.now) answers.entry) result world.old world.new }
-    ensures alone { IfErr result (λ halt. ReadsAlone ⟦<W as World>⟧ (config_reading config.now) halt world.old world.new) }
     ensures begun { IfOk result (IsBegun ⟦<W::S as Source>⟧) }
     ensures started { IsTrue (W.tells world.new)
         → IfOk result (λ desk. Started (over ⟦<W as World>⟧ ⟦<W::S as Source>⟧ ⟦<W::K as Sink>⟧ ⟦<W::A as Answerer>⟧ ⟦<W::C as Clock>⟧) config.now (option_map (λ path. path.now) answers.entry) desk (W.tale world.old) (W.tale world.new)) }
@@ -135,7 +131,6 @@ fn run<W: World>(
 ) -> Result<Report, Halt>
     ensures ends { RunEnds (over ⟦<W as World>⟧ ⟦<W::S as Source>⟧ ⟦<W::K as Sink>⟧ ⟦<W::A as Answerer>⟧ ⟦<W::C as Clock>⟧)
         config.now (option_map (λ path. path.now) answers.entry) result world.old world.new }
-    ensures alone { IfErr result (λ halt. ReadsAlone ⟦<W as World>⟧ (config_reading config.now) halt world.old world.new) }
     ensures ended { IfOk result (λ report. IsSome report.ending) }
 {
     let desk = start(alloc, config, answers, world)?;
@@ -147,24 +142,22 @@ fn run<W: World>(
 /// Runs the configuration in the file `config` with one worker, and writes the answers to the file `answers` where there
 /// is one.
 ///
-/// It reads the configuration. Of one that names an input, a pipeline or an output it opens the sinks of its output in order, the
-/// answers and the sources of its input; carries each batch of the input through the processors to the output; answers each item
-/// by what became of the messages derived from it; hands all that was opened to `keep`; and says the report. One that names none
-/// of these carries each line of `stdin` to the sink `stdout`. Not promised: what a real file or stream holds, and how long a
-/// read waits.
+/// It reads the configuration, opens the sink `stdout`, the answers and the source `stdin`, carries each line of the source
+/// to the sink as one record, answers each by what became of its record, hands all that was opened to `keep`, and says
+/// the report. Not promised: what a real file or stream holds, and how long a read waits.
 pub fn run_one<W: World>(
     alloc: Global,
     config: &str,
     answers: Option<&str>,
     world: &mut W,
 ) -> Status
-    ensures { CommandPromise (over ⟦<W as World>⟧ ⟦<W::S as Source>⟧ ⟦<W::K as Sink>⟧ ⟦<W::A as Answerer>⟧ ⟦<W::C as Clock>⟧)
+    ensures { RunPromise (over ⟦<W as World>⟧ ⟦<W::S as Source>⟧ ⟦<W::K as Sink>⟧ ⟦<W::A as Answerer>⟧ ⟦<W::C as Clock>⟧)
         config.now (option_map (λ path. path.now) answers.entry) result world.old world.new }
 {
     match run(alloc, config, answers, world) {
         Ok(report) => report_status(&report),
         Err(Halt::Failed(_)) => Status::Input,
-        Err(Halt::Config(unfit)) => follow(alloc, unfit, answers, world),
+        Err(Halt::Config(_)) => Status::Config,
         Err(Halt::NoMemory) => Status::Memory,
     }
 }

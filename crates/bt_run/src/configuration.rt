@@ -1,8 +1,8 @@
 //! The configuration of a run.
-ghost use Rattle.std.specs.Prelude.{◌≡◌, IfErr, IsTrue, MatchOption};
+ghost use Rattle.std.specs.Prelude.{◌≡◌, IsTrue, MatchOption};
 ghost use Rattle.bt_commands.specs.Outside.{SaysOnly};
 ghost use Rattle.bt_config_file.specs.Reading.{config_reading};
-ghost use Rattle.bt_run.specs.Inside.{Fits, FormOf, IsUnfit, MakesCall, ReadsAlone, Refuses, halt_of, refused_lines, said_of};
+ghost use Rattle.bt_run.specs.Inside.{Fits, FormOf, IsUnfit, MakesCall, Refuses, halt_of, refused_lines, said_of};
 
 use crate::form::names_parts;
 use crate::halt::{Halt, Unfit};
@@ -31,18 +31,22 @@ fn why_unfit(linted: Linted) -> Option<Unfit>
         return Some(Unfit::Lints(lints));
     }
     if names_parts(&config.doc) {
-        return Some(Unfit::Parts(config));
+        return Some(Unfit::NotBuilt);
     }
     None
 }
 
-// Says why a configuration that was read isn't run, where it isn't run as its parts say.
+// Says why a configuration that was read isn't run.
 fn say_unfit<W: World>(alloc: Global, unfit: &Unfit, world: &mut W) -> Result<(), NoMemory>
     ensures { SaysOnly ⟦<W as World>⟧ (said_of result unfit.now) world.old world.new }
 {
     match unfit {
         Unfit::Lints(lints) => say_lints(alloc, lints.as_slice(), world),
-        Unfit::Refused(_) | Unfit::Parts(_) => Ok(()),
+        Unfit::NotBuilt => {
+            world.err(b"config: not built");
+            Ok(())
+        }
+        Unfit::Refused(_) => Ok(()),
     }
 }
 
@@ -60,7 +64,6 @@ fn refuse<W: World>(alloc: Global, unfit: Unfit, world: &mut W) -> Halt
 pub(crate) fn read_config<W: World>(alloc: Global, config: &str, world: &mut W) -> Result<(), Halt>
     ensures makes { MakesCall ⟦<W as World>⟧ 0 (config_reading config.now) (W.tale world.old).stdin result world.old world.new }
     ensures form { IsTrue (W.tells world.new) → FormOf result ((W.tale world.old).files config.now) }
-    ensures alone { IfErr result (λ halt. ReadsAlone ⟦<W as World>⟧ (config_reading config.now) halt world.old world.new) }
 {
     match read_linted(alloc, config, world) {
         Ok(linted) => match why_unfit(linted) {

@@ -1,4 +1,4 @@
-//! Whether a configuration names parts.
+//! The form of configurations that run today.
 ghost use Rattle.std.specs.Prelude.{◌≡◌, is_some};
 ghost use Rattle.bt_run.specs.Form as spec;
 ghost use Rattle.bt_value.specs.Keys.{find};

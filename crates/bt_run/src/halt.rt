@@ -1,5 +1,5 @@
 //! Why a run didn't begin.
-use bt_config::{Config, Lints};
+use bt_config::Lints;
 use bt_config_file::ConfigRefusal;
 
 /// Why a configuration isn't run.
@@ -9,8 +9,8 @@ pub enum Unfit {
     Refused(ConfigRefusal),
     /// The configuration has these lints.
     Lints(Lints),
-    /// It has no lint, and names an input, a pipeline or an output: it runs as these say.
-    Parts(Config),
+    /// It has no lint, and names an input, a pipeline or an output, which don't run yet.
+    NotBuilt,
 }
 
 /// What kept a run from beginning.

@@ -8,5 +8,4 @@ mod form;
 pub mod halt;
 mod lines;
 mod openings;
-mod parts;
 mod report;

@@ -14,7 +14,7 @@ use Rattle.bt_commands.specs.declared.status.Status.{Status}
 use Rattle.bt_commands.specs.declared.status.Status.TheVariants as statuses
 use Rattle.bt_lint.specs.Promise.{LintPromise}
 use Rattle.bt_ports.specs.declared.world.World as World
-use Rattle.bt_run.specs.Parts.{CommandPromise}
+use Rattle.bt_run.specs.Promise.{RunPromise}
 
 -- how the words were read: as the command that they are, or as none because they are none; memory may have been wanting
 abbrev pub AreRead : List (String Global) → Result Command WordsFault → Type 0
@@ -32,7 +32,7 @@ SaysWant g status a b = (status ≡ statuses.Memory) × SaysOnly g (no_memory_li
 
 -- a run without a trace; with one it isn't built yet
 abbrev pub Runs : {W S K A C : Type 0} → Outside W S K A C → List ℕ → Option (List ℕ) → Option (List ℕ) → Status → W → W → Type 0
-Runs o config answers None status a b = CommandPromise o config answers status a b
+Runs o config answers None status a b = RunPromise o config answers status a b
 Runs o config answers (Some trace) status a b = SaysUsage o.world status a b
 
 -- what was done of a command; `test`, `load` and `audit` aren't built yet

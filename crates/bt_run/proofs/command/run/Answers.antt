@@ -39,8 +39,3 @@ returns-clause-ends g c =
           lines-then (g.W.World.tale c.args.world.now).lines (g.W.World.tale c.complete-report.new.world).lines (g.W.World.tale c.say_report.new.world).lines _
           (ap (λ u. u.lines) (complete.keeps t2).keeps ∙ start.lines t1 (complete.told.2 (say.told.2 s))) (say.said s);
     }
-
-pub returns-in_err-desk-clause-alone : goal.returns-in_err-desk-clause-alone
-returns-in_err-desk-clause-alone g c =
-    let p = err_from_is_err_and c.from_residual.result c.from_residual.ensures.1 in
-    rw (p.1, p.2) c.in_err-desk.ensures.alone

@@ -4,7 +4,6 @@ use Rattle.bt_commands.specs.Calls.{source_opening}
 use Rattle.bt_run.specs.Inside.{Reached}
 use Rattle.bt_config_file.specs.Reading.{config_reading}
 use Rattle.bt_run.specs.Plan.{plan, sink_opening, answers_opening}
-use Rattle.bt_run.proofs.FirstCall.{first-alone, later-alone}
 use Rattle.bt_run.proofs.Plans.{reached-first, reached-then, reached-length, starts-halted, starts-unread, starts-out_of_memory, starts-ready, form-behind}
 use Rattle.bt_run.proofs.Tales.{clock-then}
 use Rattle.bt_run.proofs.command.start.Given.{Over}
@@ -92,29 +91,3 @@ returns-in-Ok-clause-started g c = λ t.
       form = c.in_ok-read_config.ensures.form t1;
       only = clock-then (g.W.World.tale c.args.world.now) (g.W.World.tale c.open_source.new.world) (g.W.World.tale c.take_clock-clock.new.self) _ _ (fourth.tells t4) (clock.takes t);
     }
-
-pub returns-in_err-read_config-clause-alone : goal.returns-in_err-read_config-clause-alone
-returns-in_err-read_config-clause-alone g c =
-    let p = err_from_is_err_and c.from_residual.result c.from_residual.ensures.1 in
-    rw (p.1, p.2) (first-alone g.W.World (config_reading c.args.config.now) _ _ _ _ c.in_err-read_config.ensures.makes)
-
-pub returns-in_err-sink-clause-alone : goal.returns-in_err-sink-clause-alone
-returns-in_err-sink-clause-alone g c =
-    let p = err_from_is_err_and c.from_residual-in_err-sink.result c.from_residual-in_err-sink.ensures.1 in
-    rw (p.1, p.2)
-    (later-alone g.W.World (config_reading c.args.config.now) 0 1 _ sink_opening _ _ _ _ _ _ (read g (goal.at.returns-in_err-sink-clause-alone g c).In_ok-read_config) c.in_err-sink.ensures.makes)
-
-pub returns-in_err-answerer-clause-alone : goal.returns-in_err-answerer-clause-alone
-returns-in_err-answerer-clause-alone g c =
-    let p = err_from_is_err_and c.from_residual-in_err-answerer.result c.from_residual-in_err-answerer.ensures.1 in
-    rw (p.1, p.2)
-    (later-alone g.W.World (config_reading c.args.config.now) 1 2 _ (answers_opening (option_map {T = Bor (List ℕ)} (λ p. p.now) c.args.answers)) _ _ _ _ _ _ (sink g (goal.at.returns-in_err-answerer-clause-alone g c).In_ok-sink) c.in_err-answerer.ensures.makes)
-
-pub returns-in_err-source-clause-alone : goal.returns-in_err-source-clause-alone
-returns-in_err-source-clause-alone g c =
-    let p = err_from_is_err_and c.from_residual-in_err-source.result c.from_residual-in_err-source.ensures.1 in
-    rw (p.1, p.2)
-    (later-alone g.W.World (config_reading c.args.config.now) 2 3 _ source_opening _ _ _ _ _ _ (answered g (goal.at.returns-in_err-source-clause-alone g c).In_ok-answerer) c.in_err-source.ensures.makes)
-
-pub returns-in-Err-clause-alone : goal.returns-in-Err-clause-alone
-returns-in-Err-clause-alone g c = rw c.without_memory.ensures.halt tt

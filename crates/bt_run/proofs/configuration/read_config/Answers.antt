@@ -1,5 +1,4 @@
-use Rattle.bt_config_file.specs.Reading.{config_reading}
-use Rattle.bt_run.proofs.FirstCall.{first-alone, fits-says, halt-says, reads-halted, reads-on, reads-unfit, refused-says}
+use Rattle.bt_run.proofs.FirstCall.{fits-says, halt-says, reads-halted, reads-on, reads-unfit, refused-says}
 use Rattle.bt_run.proofs.configuration.read_config.Goals as goal
 
 pub returns-in-None-clause-makes : goal.returns-in-None-clause-makes
@@ -22,11 +21,3 @@ returns-in-Err-clause-makes g c = rw c.halt_of.ensures (reads-halted g.W.World c
 
 pub returns-in-Err-clause-form : goal.returns-in-Err-clause-form
 returns-in-Err-clause-form g c = rw c.halt_of.ensures (λ t. halt-says c.in-Err.halt _ (c.in-Err.ensures.reads.says t))
-
-pub returns-in-Some-clause-alone : goal.returns-in-Some-clause-alone
-returns-in-Some-clause-alone g c = first-alone g.W.World (config_reading c.args.config.now) _ c.refuse.result c.args.world.now c.refuse.new.world
-    (reads-unfit g.W.World c.args.config.now c.in-Ok.linted c.in-Some.unfit c.refuse.result c.args.world.now c.read_linted.new.world c.refuse.new.world c.in-Ok.ensures.reads c.in-Some.ensures c.refuse.ensures.refuses c.refuse.ensures.says)
-
-pub returns-in-Err-clause-alone : goal.returns-in-Err-clause-alone
-returns-in-Err-clause-alone g c = rw c.halt_of.ensures (first-alone g.W.World (config_reading c.args.config.now) _ _ c.args.world.now c.read_linted.new.world
-    (reads-halted g.W.World c.args.config.now c.in-Err.halt c.args.world.now c.read_linted.new.world c.in-Err.ensures.reads))

@@ -1,3 +1,0 @@
-pub mod Configured
-pub mod Inside
-pub mod Lines
